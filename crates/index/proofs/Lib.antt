@@ -1,0 +1,4 @@
+pub mod Every
+pub mod Rules
+pub mod Some
+pub mod First

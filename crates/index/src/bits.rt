@@ -1,0 +1,66 @@
+// Fields of any 64 bits.
+ghost use mathlib.Core.Path.{_≡_};
+ghost use Prim.Native.Nat.{_≤_};
+ghost use Rattle.index.specs.Layout.{topBit, modeOf, reservedOf, resOf, baseOf, digit, firstOf};
+use crate::Resolution;
+
+// The 45 bits of the digits, and one more.
+const DIGITS_END: u64 = 0x2000_0000_0000;
+
+// The bits above those of the digits.
+const PREFIX_LENGTH: u64 = 19;
+
+pub(crate) fn get_top(n: u64) -> u64
+    ensures { λ r. ⌜ r ≡ topBit n ⌝ }
+{
+    (n >> 63) % 2
+}
+
+pub(crate) fn get_mode(n: u64) -> u64
+    ensures { λ r. ⌜ r ≡ modeOf n ⌝ }
+{
+    (n >> 59) % 16
+}
+
+pub(crate) fn get_reserved(n: u64) -> u64
+    ensures { λ r. ⌜ r ≡ reservedOf n ⌝ }
+{
+    (n >> 56) % 8
+}
+
+pub(crate) fn get_resolution(n: u64) -> Resolution
+    ensures { λ r. ⌜ r .0 ≡ resOf n ⌝ }
+{
+    Resolution((n >> 52) % 16)
+}
+
+pub(crate) fn get_base_cell(n: u64) -> u64
+    ensures { λ r. ⌜ r ≡ baseOf n ⌝ }
+{
+    (n >> 45) % 128
+}
+
+pub(crate) fn get_direction(n: u64, r: Resolution) -> u64
+    requires { ⌜ (1 ≤ r .0) × (r .0 ≤ 15) ⌝ }
+    ensures { λ d. ⌜ d ≡ digit n (r .0) ⌝ }
+{
+    (n >> (3 * (15 - r.0))) % 8
+}
+
+// The first used digit that is not 0, or 0. After digits that are all 0 comes a 7 that is not used: the place is capped at the resolution.
+pub(crate) fn first_axe(n: u64) -> u64
+    ensures { λ d. ⌜ d ≡ firstOf n (resOf n) ⌝ }
+{
+    let own = get_resolution(n);
+    let k = own.0;
+    if k == 0 {
+        return 0;
+    }
+    let z = u64::leading_zeros(n % DIGITS_END) as u64;
+    let at = (z - PREFIX_LENGTH) / 3 + 1;
+    if k < at {
+        get_direction(n, Resolution(k))
+    } else {
+        get_direction(n, Resolution(at))
+    }
+}

@@ -1,0 +1,37 @@
+// The 64 bits of an index (index/bits.rs and the public layout): its kinds, its fields, and the check of a raw number.
+ghost use mathlib.Core.Path.{_≡_};
+
+mod base_cell;
+mod bits;
+pub mod inside;
+mod raw;
+
+pub use raw::check;
+
+// A number that the check let through.
+pub struct Cell(u64);
+
+// 0 to 15.
+pub struct Resolution(u64);
+
+// 0 to 121.
+pub struct BaseCell(u64);
+
+// A used digit, 0 to 6.
+pub struct Digit(u64);
+
+// Why a request is refused: a number of document 01's table.
+pub struct Refusal(u16);
+
+impl Refusal {
+    pub fn number(self) -> u16
+        ensures { λ r. ⌜ r ≡ self .0 ⌝ }
+    {
+        self.0
+    }
+}
+
+pub enum Checked {
+    Valid(Cell),
+    Refused(Refusal),
+}
