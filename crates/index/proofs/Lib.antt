@@ -2,3 +2,8 @@ pub mod Every
 pub mod Rules
 pub mod Some
 pub mod First
+pub mod Validity
+pub mod Answers
+pub mod Sum
+pub mod Runs
+pub mod View

@@ -1,9 +1,11 @@
--- Laws of rules that are tried in order. Assumes nothing.
+-- Rules that are tried in order: a refusal is given exactly where it is the first met, and the answer exactly where all is clear. Assumes nothing.
 use mathlib.Core.Path.{_≡_, refl, sym, ap, _∙_}
 use mathlib.Core.Bool.{Bool, true, false}
 use mathlib.Core.List.{List, [], _∷_, _++_}
+use mathlib.Core.Logic.{_⊎_, inl, inr, _↔_}
 use Prim.Native.Nat.{ℕ}
-use Rattle.index.specs.Refusals.{Rule, _when_, Outcome, answered, refused, judged}
+use native.Mathlib.Omega.{arith}
+use Rattle.index.specs.Refusals.{Rule, _when_, Outcome, answered, refused, judged, Clear, Met}
 
 module _ {A : Type 0} where
   pub past : (k : ℕ) (t : Bool) (rules : List Rule) (a : A) → t ≡ false → judged ((k when t) ∷ rules) a ≡ judged rules a
@@ -14,6 +16,53 @@ module _ {A : Type 0} where
   unfolding judged
   hit k t rules a e = rw e
 
-  pub met-none : (a : A) → judged [] a ≡ answered a
+  pub none-answered : (a : A) → judged [] a ≡ answered a
   unfolding judged
-  met-none a = refl
+  none-answered a = refl
+
+  pub refused-inj : {j k : ℕ} → _≡_ {A = Outcome A} (refused j) (refused k) → j ≡ k
+  refused-inj e = cc
+
+  pub never : {a : A} {k : ℕ} → _≡_ {A = Outcome A} (answered a) (refused k) → ⊥
+  never e = let z : _≡_ {A = ℕ} 0 1 = cc in omega arith
+
+  pub clear-answered : (rules : List Rule) (a : A) → Clear rules → judged rules a ≡ answered a
+  unfolding judged
+  clear-answered [] a c = refl
+  clear-answered ((k when t) ∷ rules) a c = rw (c .0) (clear-answered rules a (c .1))
+
+  pub answered-clear : (rules : List Rule) (a b : A) → judged rules a ≡ answered b → Clear rules
+  unfolding judged
+  answered-clear [] a b e = tt
+  answered-clear ((k when true) ∷ rules) a b e = absurd (never (sym e))
+  answered-clear ((k when false) ∷ rules) a b e = (refl, answered-clear rules a b e)
+
+  pub answered-same : (rules : List Rule) (a b : A) → judged rules a ≡ answered b → a ≡ b
+  unfolding judged
+  answered-same [] a b e = cc
+  answered-same ((k when true) ∷ rules) a b e = absurd (never (sym e))
+  answered-same ((k when false) ∷ rules) a b e = answered-same rules a b e
+
+  pub met-refused : (rules : List Rule) (a : A) (k : ℕ) → Met k rules → judged rules a ≡ refused k
+  unfolding judged
+  met-refused [] a k m = absurd m
+  met-refused ((j when t) ∷ rules) a k (inl m) = rw (m .0, m .1)
+  met-refused ((j when t) ∷ rules) a k (inr m) = rw (m .0) (met-refused rules a k (m .1))
+
+  pub refused-met : (rules : List Rule) (a : A) (k : ℕ) → judged rules a ≡ refused k → Met k rules
+  unfolding judged
+  refused-met [] a k e = absurd (never e)
+  refused-met ((j when true) ∷ rules) a k e = inl (refl, refused-inj e)
+  refused-met ((j when false) ∷ rules) a k e = inr (refl, refused-met rules a k e)
+
+-- rules after others: what the first ones refuse is refused, and what they let through the later ones judge
+pub early : {A B : Type 0} (rules more : List Rule) (a : A) (b : B) (k : ℕ) → judged rules a ≡ refused k → judged (rules ++ more) b ≡ refused k
+unfolding judged
+early [] more a b k e = absurd (never e)
+early ((j when true) ∷ rules) more a b k e = ap refused (refused-inj e)
+early ((j when false) ∷ rules) more a b k e = early rules more a b k e
+
+pub cleared : {B : Type 0} (rules more : List Rule) (b : B) → Clear rules → judged (rules ++ more) b ≡ judged more b
+unfolding judged
+cleared [] more b c = refl
+cleared ((j when t) ∷ rules) more b c = rw (c .0) (cleared rules more b (c .1))

@@ -1,5 +1,7 @@
 // The 64 bits of an index (index/bits.rs and the public layout): its kinds, its fields, and the check of a raw number.
 ghost use mathlib.Core.Path.{_≡_};
+ghost use Rattle.index.specs.Refusals.{numberOf};
+ghost use Rattle.index.specs.Check.{told};
 
 mod base_cell;
 mod bits;
@@ -34,4 +36,16 @@ impl Refusal {
 pub enum Checked {
     Valid(Cell),
     Refused(Refusal),
+}
+
+impl Checked {
+    // The refusal; 0 for a cell.
+    pub fn refusal(self) -> Refusal
+        ensures { λ r. ⌜ r .0 ≡ numberOf (told self) ⌝ }
+    {
+        match self {
+            Checked::Valid(_) => Refusal(0),
+            Checked::Refused(x) => x,
+        }
+    }
 }

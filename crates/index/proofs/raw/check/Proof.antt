@@ -9,7 +9,7 @@ use lib.ListN.{drop}
 use Rattle.index.specs.Layout.{baseOf, resOf, firstOf, isPentagonal}
 use Rattle.index.specs.Refusals.{Outcome, answered, refused, judged}
 use Rattle.index.specs.Check.{cellRules, checkOf, told}
-use Rattle.index.proofs.Rules.{past, hit, met-none}
+use Rattle.index.proofs.Rules.{past, hit, none-answered}
 use Rattle.index.proofs.raw.check.Statement.{statement}
 use Rattle.index.proofs.raw.check.Tie as tie
 
@@ -130,13 +130,13 @@ returns-8 : tie.Need-returns-8
 unfolding from
 returns-8 c =
     let d = c .before .before .before .before in
-    sym (past6 d ∙ past _ _ _ _ (kept _ _ _ _ (d .before .before .before .before .before .get-base-cell .ensures) (c .before .before .before .is-pentagon .ensures) (c .before .before .if7 .taken) (c .before .first-axe .ensures) (c .if8 .left)) ∙ met-none _)
+    sym (past6 d ∙ past _ _ _ _ (kept _ _ _ _ (d .before .before .before .before .before .get-base-cell .ensures) (c .before .before .before .is-pentagon .ensures) (c .before .before .if7 .taken) (c .before .first-axe .ensures) (c .if8 .left)) ∙ none-answered _)
 
 returns-9 : tie.Need-returns-9
 unfolding from
 returns-9 c =
     let d = c .before .before in
-    sym (past6 d ∙ past _ _ _ _ (hexagonal _ _ 0 _ (d .before .before .before .before .before .get-base-cell .ensures) (c .before .is-pentagon .ensures) (c .if7 .left)) ∙ met-none _)
+    sym (past6 d ∙ past _ _ _ _ (hexagonal _ _ 0 _ (d .before .before .before .before .before .get-base-cell .ensures) (c .before .is-pentagon .ensures) (c .if7 .left)) ∙ none-answered _)
 
 pub check-spec : {M : Type 1} → statement M
 check-spec =
