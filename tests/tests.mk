@@ -1,0 +1,35 @@
+# Tests of the archive from outside, for the Makefile at the root to include; it has the rule for
+# $(LIB). A part that this machine cannot run says 'skipped: ..' in one line and is no failure, but
+# for `make differ` and `make sample`, which were asked for by name.
+LIB ?= target/staticlib/librivetgnome.a
+C_WARN = -Wall -Wextra -Werror -pedantic
+C_HAS = printf '%s\n' '\#include <stdint.h>' | $(1) -fsyntax-only - 2>/dev/null
+
+.PHONY: test-c test-differ differ sample
+
+# Every tests/c/*.c, from C11 and again from C++17.
+test-c: $(LIB)
+	@mkdir -p target/c
+	@if $(call C_HAS,gcc -x c); then \
+		for t in $(basename $(notdir $(wildcard tests/c/*.c))); do \
+			gcc -std=c11 $(C_WARN) -O -Iinclude -o target/c/$$t tests/c/$$t.c $(LIB) && target/c/$$t || exit 1; \
+		done; \
+	else echo 'skipped: C test (Debian package gcc, with libc6-dev)'; fi
+	@if $(call C_HAS,g++ -x c++); then \
+		for t in $(basename $(notdir $(wildcard tests/c/*.c))); do \
+			g++ -std=c++17 $(C_WARN) -O -Iinclude -o target/c/$$t++ -x c++ tests/c/$$t.c -x none $(LIB) && target/c/$$t++ || exit 1; \
+		done; \
+	else echo 'skipped: C++ test (Debian package g++)'; fi
+
+# The short comparison with the Rust.
+test-differ: $(LIB)
+	@tests/oracle/build.sh $(LIB) && target/oracle/differ --count 300000 || test $$? = 77
+
+# The whole one.
+differ: $(LIB)
+	@tests/oracle/build.sh $(LIB)
+	@target/oracle/differ
+
+# crates/hexline/stdin and stdout again, from the Rust's answers.
+sample: $(LIB)
+	@tests/sample.sh
