@@ -1,7 +1,10 @@
 #!/bin/sh
-# Makes the stored requests and answers of the line program again, from the Rust's answers.
-#   tests/sample.sh [DIR]      default crates/hexline; writes DIR/stdin and DIR/stdout
+# Makes crates/hexline/stdin and stdout again: a sample of the Rust's answers, then lines written by hand (tests/lines), whose last has no end.
 set -eu
 cd "$(dirname "$0")/.."
 tests/oracle/build.sh
-target/oracle/differ --sample 400 --seed 1 --into "${1:-crates/hexline}"
+into=target/sample
+mkdir -p $into
+target/oracle/differ --sample 400 --seed 1 --into $into
+cat $into/stdin tests/lines/by_hand.in >crates/hexline/stdin
+cat $into/stdout tests/lines/by_hand.out >crates/hexline/stdout

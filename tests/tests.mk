@@ -1,7 +1,6 @@
 # Tests of the archive from outside, for the Makefile at the root to include; it has the rule for
 # $(LIB). A part that this machine cannot run says 'skipped: ..' in one line and is no failure, but
 # for `make differ` and `make sample`, which were asked for by name.
-LIB ?= target/staticlib/librivetgnome.a
 C_WARN = -Wall -Wextra -Werror -pedantic
 C_HAS = printf '%s\n' '\#include <stdint.h>' | $(1) -fsyntax-only - 2>/dev/null
 
@@ -28,7 +27,7 @@ test-differ: $(LIB)
 # The whole one.
 differ: $(LIB)
 	@tests/oracle/build.sh $(LIB)
-	@target/oracle/differ
+	@target/oracle/differ $(if $(N),--count $(N)) $(if $(SEED),--seed $(SEED))
 
 # crates/hexline/stdin and stdout again, from the Rust's answers.
 sample: $(LIB)

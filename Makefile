@@ -1,0 +1,30 @@
+# `make` lists the targets. All that is made goes to target/.
+LIB = target/staticlib/librivetgnome.a
+
+.PHONY: help run test lib fmt
+help:
+	@echo 'make run      prove and build what is needed, then answer the tour (docs/tour.txt)'
+	@echo 'make test     the whole gate: proofs, must-fail edits, programs, and the tests from outside'
+	@echo 'make differ   compare the library with the Rust original (N=.. random requests an entry, SEED=..)'
+	@echo 'make sample   make the stored requests and answers of hexline again, from the Rust'
+	@echo 'make lib      prove and build $(LIB)'
+	@echo 'make fmt      lay out every .rt and .antt file'
+
+run:
+	@mkdir -p target && rt check hexline >target/run.log 2>&1 || { cat target/run.log; exit 1; }
+	@tests/tour.sh
+
+test:
+	@tests/gate.sh
+
+lib: $(LIB)
+
+# rt itself proves nothing again that has not changed
+.PHONY: $(LIB)
+$(LIB):
+	@mkdir -p target && rt staticlib rivetgnome >target/lib.log 2>&1 || { cat target/lib.log; exit 1; }
+
+fmt:
+	@rt fmt
+
+include tests/tests.mk
