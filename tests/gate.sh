@@ -17,15 +17,16 @@ case $passed:$failed in
 esac
 [ "$(cat "$work/status")" = 0 ] || [ "$failed" != 0 ] || failed=1
 
-# part NAME COMMAND..: a part that fails is one more failure
+# part NAME COMMAND..: a part that fails is one more failure; one that was skipped is not called done
 part() {
     name=$1
     shift
-    if "$@" </dev/null 2>&1; then
-        echo "gate: $name: done"
-    else
+    { "$@" </dev/null 2>&1; echo $? >"$work/status"; } | tee "$work/part"
+    if [ "$(cat "$work/status")" != 0 ]; then
         echo "gate: $name: FAILED"
         failed=$((failed + 1))
+    elif ! grep -q '^skipped: ' "$work/part"; then
+        echo "gate: $name: done"
     fi
 }
 if [ "$failed" = 0 ]; then
