@@ -9,8 +9,9 @@ use native.Mathlib.Omega.{arith}
 use lib.Arith.{mod-mul, digits-div, digits-mod, digits-lt}
 use lib.Pow.{pow-add}
 use lib.ListN.{length}
+use Rattle.plane.specs.Strings.{Digits}
 use Rattle.index.specs.Layout.{digit, topBit, modeOf, reservedOf, resOf, baseOf, firstOf, Valid}
-use Rattle.index.specs.View.{used, octal, pack, first, Digits, Fit}
+use Rattle.index.specs.View.{used, octal, pack, first, Fit}
 use Rattle.index.proofs.Sum.{sum, sum-base, sum-res, sum-low, sum-reserved, sum-mode, sum-top, sum-fits}
 use Rattle.index.proofs.Runs.{place, eights-pos, run, octal-used, length-used, sevens, sevens-back}
 

@@ -3,9 +3,10 @@
 use mathlib.Core.Path.{_≡_}
 use mathlib.Core.Bool.{true, cond}
 use mathlib.Core.List.{List, [], _∷_}
-use Prim.Native.Nat.{ℕ, zero, suc, _+_, _-_, _*_, _^_, _≤_, _<_}
+use Prim.Native.Nat.{ℕ, zero, suc, _+_, _-_, _*_, _^_, _≤_}
 use lib.Dec.{eqb}
 use lib.ListN.{length}
+use Rattle.plane.specs.Strings.{Digits}
 use Rattle.index.specs.Layout.{digit, isPentagonal}
 
 -- the digits 1 to k of n
@@ -26,11 +27,6 @@ pack b ds = 2 ^ 59 + length ds * 2 ^ 52 + b * 2 ^ 45 + (octal ds * 8 ^ (15 - len
 unfoldable pub first : List ℕ → ℕ
 first [] = 0
 first (d ∷ ds) = cond (eqb (first ds) 0) d (first ds)
-
--- each digit is 0 to 6
-abbrev pub Digits : List ℕ → Type 0
-Digits [] = Unit {0}
-Digits (d ∷ ds) = (d < 7) × Digits ds
 
 -- what makes a base cell and a string of digits a cell
 pub record Fit (b : ℕ) (ds : List ℕ) : Type 0 where

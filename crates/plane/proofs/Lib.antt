@@ -1,0 +1,14 @@
+pub mod Every
+pub mod Whole
+pub mod Bounds
+pub mod Pairs
+pub mod Rows
+pub mod Normal
+pub mod Distances
+pub mod Sevenths
+pub mod Units
+pub mod Neighbours
+pub mod Turns
+pub mod Ups
+pub mod Centres
+pub mod Sizes

@@ -1,0 +1,66 @@
+ghost use mathlib.Core.Path.{_≡_};
+ghost use Prim.Native.Nat.{_<_};
+ghost use Rattle.plane.specs.Directions.{unit, turn, turns};
+use crate::ijk::IJK;
+
+// A direction, 0 to 6.
+pub struct Direction(u8);
+
+// The direction of a number.
+pub fn new_unchecked(value: u8) -> Direction
+    requires { ⌜ value < 7 ⌝ }
+    ensures { λ r. ⌜ r .0 ≡ value ⌝ }
+{
+    Direction(value)
+}
+
+// The number of a direction.
+pub fn value(d: Direction) -> u8
+    ensures { λ r. ⌜ r ≡ d .0 ⌝ }
+{
+    d.0
+}
+
+// The unit vector.
+pub fn coordinate(d: Direction) -> IJK
+    requires { ⌜ d .0 < 7 ⌝ }
+    ensures { λ r. ⌜ r ≡ unit (d .0) ⌝ }
+{
+    let v = d.0;
+    IJK {
+        i: (v / 4) as i32,
+        j: (v / 2 % 2) as i32,
+        k: (v % 2) as i32,
+    }
+}
+
+// The direction turned once, by 60 degrees.
+pub fn rotate60_once(d: Direction, ccw: bool) -> Direction
+    requires { ⌜ d .0 < 7 ⌝ }
+    ensures { λ r. ⌜ r .0 ≡ turn ccw (d .0) ⌝ }
+{
+    let v = d.0;
+    match v {
+        1 => if ccw { Direction(5) } else { Direction(3) },
+        2 => if ccw { Direction(3) } else { Direction(6) },
+        3 => if ccw { Direction(1) } else { Direction(2) },
+        4 => if ccw { Direction(6) } else { Direction(5) },
+        5 => if ccw { Direction(4) } else { Direction(1) },
+        6 => if ccw { Direction(2) } else { Direction(4) },
+        _ => d,
+    }
+}
+
+// The direction turned `count` times.
+pub fn rotate60(d: Direction, ccw: bool, count: u8) -> Direction
+    requires { ⌜ d .0 < 7 ⌝ }
+    ensures { λ r. ⌜ r .0 ≡ turns ccw count (d .0) ⌝ }
+{
+    let mut r = d;
+    let mut n: u8 = 0;
+    while n < count {
+        r = rotate60_once(r, ccw);
+        n += 1;
+    }
+    r
+}

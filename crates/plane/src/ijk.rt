@@ -1,0 +1,299 @@
+ghost use mathlib.Core.Path.{_≡_};
+ghost use Prim.Native.Nat.{_+_, _*_, _<_, _≤_};
+ghost use lib.IntN.{pos, natAbs, _+ℤ_, _-ℤ_, _*ℤ_};
+ghost use mir.Syntax.{w32};
+ghost use mir.Val.{SFits};
+ghost use Rattle.plane.specs.Directions.{triple, unit};
+ghost use Rattle.plane.specs.Points as points;
+ghost use Rattle.plane.specs.Ranges.{in-range, point-in-range, Within, Broad};
+ghost use Rattle.plane.specs.Inside.{Is, Weighs, weighed, beside};
+use crate::direction;
+use crate::direction::Direction;
+
+// A point of the plane.
+pub struct IJK {
+    pub i: i32,
+    pub j: i32,
+    pub k: i32,
+}
+
+// The IJ form of a point.
+pub struct IJ {
+    pub i: i32,
+    pub j: i32,
+}
+
+// The direction of a point, where it is a unit vector or zero.
+pub enum Way {
+    Found(Direction),
+    NotUnit,
+}
+
+// Whether a coordinate is within the entry range.
+pub fn in_range(n: i32) -> bool
+    ensures { λ r. ⌜ r ≡ in-range n ⌝ }
+{
+    if n < -100000000 {
+        false
+    } else {
+        n <= 100000000
+    }
+}
+
+// Whether all three are.
+pub fn point_in_range(i: i32, j: i32, k: i32) -> bool
+    ensures { λ r. ⌜ r ≡ point-in-range (triple i j k) ⌝ }
+{
+    if in_range(i) {
+        if in_range(j) { in_range(k) } else { false }
+    } else {
+        false
+    }
+}
+
+// The lesser of two.
+fn lesser(a: i32, b: i32) -> i32
+    ensures { λ r. ⌜ r ≡ points.lesser a b ⌝ }
+{
+    if a <= b { a } else { b }
+}
+
+// The same point in normal form.
+pub fn normalize(p: IJK) -> IJK
+    requires { ⌜ Within 1000000000 p ⌝ }
+    ensures { λ r. ⌜ r ≡ points.normal p ⌝ }
+{
+    let i = p.i;
+    let j = p.j;
+    let k = p.k;
+    let m = lesser(i, lesser(j, k));
+    IJK {
+        i: i - m,
+        j: j - m,
+        k: k - m,
+    }
+}
+
+// Whether two triples are equal.
+fn equal(p: IJK, q: IJK) -> bool
+    ensures { λ r. ⌜ r ≡ points.equals p q ⌝ }
+{
+    let a = p.i;
+    let b = p.j;
+    let c = p.k;
+    let d = q.i;
+    let e = q.j;
+    let f = q.k;
+    if a == d {
+        if b == e { c == f } else { false }
+    } else {
+        false
+    }
+}
+
+// Whether two triples mean one point.
+pub fn same_point(p: IJK, q: IJK) -> bool
+    requires { ⌜ (Within 1000000000 p) × (Within 1000000000 q) ⌝ }
+    ensures { λ r. ⌜ r ≡ points.same p q ⌝ }
+{
+    let a = normalize(p);
+    let b = normalize(q);
+    equal(a, b)
+}
+
+// a - b
+fn less(a: i32, b: i32) -> i32
+    requires { ⌜ (natAbs a ≤ 500000000) × (natAbs b ≤ 500000000) ⌝ }
+    ensures { λ r. ⌜ Is (a -ℤ b) 1000000000 r ⌝ }
+{
+    a - b
+}
+
+// The difference of two points, not in normal form.
+pub fn minus(p: IJK, q: IJK) -> IJK
+    requires { ⌜ (Within 500000000 p) × (Within 500000000 q) ⌝ }
+    ensures { λ r. ⌜ r ≡ points.minus p q ⌝ }
+{
+    let a = p.i;
+    let b = p.j;
+    let c = p.k;
+    let d = q.i;
+    let e = q.j;
+    let f = q.k;
+    IJK {
+        i: less(a, d),
+        j: less(b, e),
+        k: less(c, f),
+    }
+}
+
+// The greater of two.
+fn greater(a: i32, b: i32) -> i32
+    ensures { λ r. ⌜ (r ≡ points.greater a b) × (SFits w32 r) ⌝ }
+{
+    if a <= b { b } else { a }
+}
+
+// The largest component.
+fn largest(p: IJK) -> i32
+    ensures { λ r. ⌜ (r ≡ points.largest p) × (SFits w32 r) ⌝ }
+{
+    let i = p.i;
+    let j = p.j;
+    let k = p.k;
+    greater(i, greater(j, k))
+}
+
+// How far apart two points are.
+pub fn distance(p: IJK, q: IJK) -> i32
+    requires { ⌜ (Within 500000000 p) × (Within 500000000 q) ⌝ }
+    ensures { λ r. ⌜ r ≡ points.distance p q ⌝ }
+{
+    largest(normalize(minus(p, q)))
+}
+
+// The IJ form.
+pub fn to_ij(p: IJK) -> IJ
+    requires { ⌜ Broad 2000000000 p ⌝ }
+    ensures { λ r. ⌜ r ≡ points.ij p ⌝ }
+{
+    let i = p.i;
+    let j = p.j;
+    let k = p.k;
+    IJ { i: i - k, j: j - k }
+}
+
+// The point of an IJ pair.
+pub fn of_ij(i: i32, j: i32) -> IJK
+    requires { ⌜ (natAbs i ≤ 1000000000) × (natAbs j ≤ 1000000000) ⌝ }
+    ensures { λ r. ⌜ r ≡ points.of-ij (points.pair i j) ⌝ }
+{
+    normalize(IJK { i, j, k: 0 })
+}
+
+// a-fold x, and y.
+fn scaled(a: u8, x: i32, y: i32) -> i32
+    requires { ⌜ a * natAbs x + natAbs y ≤ 1000000000 ⌝ }
+    ensures { λ r. ⌜ Is (pos a *ℤ x +ℤ y) 1000000000 r ⌝ }
+{
+    (a as i32) * x + y
+}
+
+// a-fold p, and q.
+fn weighted(a: u8, p: IJK, q: IJK) -> IJK
+    requires { ⌜ Weighs 1000000000 a p q ⌝ }
+    ensures { λ r. ⌜ r ≡ points.normal (weighed a p q) ⌝ }
+{
+    let i = p.i;
+    let j = p.j;
+    let k = p.k;
+    let x = q.i;
+    let y = q.j;
+    let z = q.k;
+    normalize(IJK {
+        i: scaled(a, i, x),
+        j: scaled(a, j, y),
+        k: scaled(a, k, z),
+    })
+}
+
+// Each component's place taken by the next one, or by the one before.
+fn shifted(p: IJK, ccw: bool) -> IJK
+    ensures { λ r. ⌜ r ≡ beside ccw p ⌝ }
+{
+    let i = p.i;
+    let j = p.j;
+    let k = p.k;
+    if ccw {
+        IJK { i: j, j: k, k: i }
+    } else {
+        IJK { i: k, j: i, k: j }
+    }
+}
+
+// Down by aperture 7: each unit vector goes to three of itself and one of its neighbour on one side.
+pub fn down_aperture7(p: IJK, ccw: bool) -> IJK
+    requires { ⌜ Within 250000000 p ⌝ }
+    ensures { λ r. ⌜ r ≡ points.normal (points.down7 ccw p) ⌝ }
+{
+    weighted(3, p, shifted(p, ccw))
+}
+
+// Down by aperture 3.
+pub fn down_aperture3(p: IJK, ccw: bool) -> IJK
+    requires { ⌜ Within 250000000 p ⌝ }
+    ensures { λ r. ⌜ r ≡ points.normal (points.down3 ccw p) ⌝ }
+{
+    weighted(2, p, shifted(p, ccw))
+}
+
+// Turned by 60 degrees.
+pub fn rotate60(p: IJK, ccw: bool) -> IJK
+    requires { ⌜ Within 250000000 p ⌝ }
+    ensures { λ r. ⌜ r ≡ points.normal (points.turned ccw p) ⌝ }
+{
+    weighted(1, p, shifted(p, !ccw))
+}
+
+// The whole number nearest to a seventh. Division rounds toward zero, so 3 is added away from zero first.
+fn nearest_seventh(n: i32) -> i32
+    requires { ⌜ natAbs n ≤ 1000000000 ⌝ }
+    ensures { λ r. ⌜ Is (points.nearest n) 1000000000 r ⌝ }
+{
+    if n < 0 { (n - 3) / 7 } else { (n + 3) / 7 }
+}
+
+// The whole number nearest to a seventh of a-fold x, and y.
+fn seventh(a: u8, x: i32, y: i32) -> i32
+    requires { ⌜ a * natAbs x + natAbs y ≤ 1000000000 ⌝ }
+    ensures { λ r. ⌜ Is (points.nearest (pos a *ℤ x +ℤ y)) 1000000000 r ⌝ }
+{
+    nearest_seventh(scaled(a, x, y))
+}
+
+// Up by aperture 7.
+pub fn up_aperture7(p: IJK, ccw: bool) -> IJK
+    requires { ⌜ Broad 250000000 p ⌝ }
+    ensures { λ r. ⌜ r ≡ points.up7 ccw p ⌝ }
+{
+    let q = to_ij(p);
+    let i = q.i;
+    let j = q.j;
+    if ccw {
+        of_ij(seventh(3, i, -j), seventh(2, j, i))
+    } else {
+        of_ij(seventh(2, i, j), seventh(3, j, -i))
+    }
+}
+
+// The point moved by a direction's unit vector.
+pub fn neighbor(p: IJK, d: Direction) -> IJK
+    requires { ⌜ (Within 999999999 p) × (d .0 < 7) ⌝ }
+    ensures { λ r. ⌜ r ≡ points.normal (points.plus p (unit (d .0))) ⌝ }
+{
+    weighted(1, p, direction::coordinate(d))
+}
+
+// 4i + 2j + k of a unit vector.
+fn direction_of_unit(p: IJK) -> Direction
+    requires { ⌜ (points.value p < 7) × (p ≡ unit (points.value p)) ⌝ }
+    ensures { λ r. ⌜ r .0 ≡ points.value p ⌝ }
+{
+    let i = p.i;
+    let j = p.j;
+    let k = p.k;
+    direction::new_unchecked(scaled(4, i, scaled(2, j, k)) as u8)
+}
+
+// The direction of a point.
+pub fn direction_of(p: IJK) -> Way
+    requires { ⌜ Within 1000000000 p ⌝ }
+    ensures { λ r. ⌜ r ≡ points.direction-of p ⌝ }
+{
+    let n = normalize(p);
+    if largest(n) <= 1 {
+        Way::Found(direction_of_unit(n))
+    } else {
+        Way::NotUnit
+    }
+}
