@@ -1,14 +1,20 @@
 ghost use mathlib.Core.Path.{_≡_};
-ghost use Prim.Native.Nat.{_+_, _*_, _<_, _≤_};
-ghost use lib.IntN.{pos, natAbs, _+ℤ_, _-ℤ_, _*ℤ_};
+ghost use Prim.Native.Nat.{_<_, _≤_};
+ghost use lib.IntN.{natAbs};
 ghost use mir.Syntax.{w32};
 ghost use mir.Val.{SFits};
-ghost use Rattle.plane.specs.Directions.{triple, unit};
+ghost use Rattle.plane.specs.Directions.{unit};
 ghost use Rattle.plane.specs.Points as points;
-ghost use Rattle.plane.specs.Ranges.{in-range, point-in-range, Within, Broad};
-ghost use Rattle.plane.specs.Inside.{Is, Weighs, weighed, beside};
+ghost use Rattle.plane.specs.Ranges.{point-in-range, Within, Broad};
+ghost use Rattle.plane.specs.Inside.{Weighs, weighed, beside};
 use crate::direction;
 use crate::direction::Direction;
+use crate::number::greater;
+use crate::number::in_range;
+use crate::number::less;
+use crate::number::lesser;
+use crate::number::scaled;
+use crate::number::seventh;
 
 // A point of the plane.
 pub struct IJK {
@@ -29,33 +35,18 @@ pub enum Way {
     NotUnit,
 }
 
-// Whether a coordinate is within the entry range.
-pub fn in_range(n: i32) -> bool
-    ensures { λ r. ⌜ r ≡ in-range n ⌝ }
+// Whether each coordinate is within the entry range.
+pub fn point_in_range(p: IJK) -> bool
+    ensures { λ r. ⌜ r ≡ point-in-range p ⌝ }
 {
-    if n < -100000000 {
-        false
-    } else {
-        n <= 100000000
-    }
-}
-
-// Whether all three are.
-pub fn point_in_range(i: i32, j: i32, k: i32) -> bool
-    ensures { λ r. ⌜ r ≡ point-in-range (triple i j k) ⌝ }
-{
+    let i = p.i;
+    let j = p.j;
+    let k = p.k;
     if in_range(i) {
         if in_range(j) { in_range(k) } else { false }
     } else {
         false
     }
-}
-
-// The lesser of two.
-fn lesser(a: i32, b: i32) -> i32
-    ensures { λ r. ⌜ r ≡ points.lesser a b ⌝ }
-{
-    if a <= b { a } else { b }
 }
 
 // The same point in normal form.
@@ -101,14 +92,6 @@ pub fn same_point(p: IJK, q: IJK) -> bool
     equal(a, b)
 }
 
-// a - b
-fn less(a: i32, b: i32) -> i32
-    requires { ⌜ (natAbs a ≤ 500000000) × (natAbs b ≤ 500000000) ⌝ }
-    ensures { λ r. ⌜ Is (a -ℤ b) 1000000000 r ⌝ }
-{
-    a - b
-}
-
 // The difference of two points, not in normal form.
 pub fn minus(p: IJK, q: IJK) -> IJK
     requires { ⌜ (Within 500000000 p) × (Within 500000000 q) ⌝ }
@@ -125,13 +108,6 @@ pub fn minus(p: IJK, q: IJK) -> IJK
         j: less(b, e),
         k: less(c, f),
     }
-}
-
-// The greater of two.
-fn greater(a: i32, b: i32) -> i32
-    ensures { λ r. ⌜ (r ≡ points.greater a b) × (SFits w32 r) ⌝ }
-{
-    if a <= b { b } else { a }
 }
 
 // The largest component.
@@ -171,14 +147,6 @@ pub fn of_ij(i: i32, j: i32) -> IJK
     normalize(IJK { i, j, k: 0 })
 }
 
-// a-fold x, and y.
-fn scaled(a: u8, x: i32, y: i32) -> i32
-    requires { ⌜ a * natAbs x + natAbs y ≤ 1000000000 ⌝ }
-    ensures { λ r. ⌜ Is (pos a *ℤ x +ℤ y) 1000000000 r ⌝ }
-{
-    (a as i32) * x + y
-}
-
 // a-fold p, and q.
 fn weighted(a: u8, p: IJK, q: IJK) -> IJK
     requires { ⌜ Weighs 1000000000 a p q ⌝ }
@@ -211,12 +179,20 @@ fn shifted(p: IJK, ccw: bool) -> IJK
     }
 }
 
-// Down by aperture 7: each unit vector goes to three of itself and one of its neighbour on one side.
+// The three images have one shape: a-fold the point, and its components moved by one place.
+fn image(a: u8, p: IJK, ccw: bool) -> IJK
+    requires { ⌜ (a ≤ 3) × (Within 250000000 p) ⌝ }
+    ensures { λ r. ⌜ r ≡ points.normal (weighed a p (beside ccw p)) ⌝ }
+{
+    weighted(a, p, shifted(p, ccw))
+}
+
+// Down by aperture 7.
 pub fn down_aperture7(p: IJK, ccw: bool) -> IJK
     requires { ⌜ Within 250000000 p ⌝ }
     ensures { λ r. ⌜ r ≡ points.normal (points.down7 ccw p) ⌝ }
 {
-    weighted(3, p, shifted(p, ccw))
+    image(3, p, ccw)
 }
 
 // Down by aperture 3.
@@ -224,7 +200,7 @@ pub fn down_aperture3(p: IJK, ccw: bool) -> IJK
     requires { ⌜ Within 250000000 p ⌝ }
     ensures { λ r. ⌜ r ≡ points.normal (points.down3 ccw p) ⌝ }
 {
-    weighted(2, p, shifted(p, ccw))
+    image(2, p, ccw)
 }
 
 // Turned by 60 degrees.
@@ -232,23 +208,7 @@ pub fn rotate60(p: IJK, ccw: bool) -> IJK
     requires { ⌜ Within 250000000 p ⌝ }
     ensures { λ r. ⌜ r ≡ points.normal (points.turned ccw p) ⌝ }
 {
-    weighted(1, p, shifted(p, !ccw))
-}
-
-// The whole number nearest to a seventh. Division rounds toward zero, so 3 is added away from zero first.
-fn nearest_seventh(n: i32) -> i32
-    requires { ⌜ natAbs n ≤ 1000000000 ⌝ }
-    ensures { λ r. ⌜ Is (points.nearest n) 1000000000 r ⌝ }
-{
-    if n < 0 { (n - 3) / 7 } else { (n + 3) / 7 }
-}
-
-// The whole number nearest to a seventh of a-fold x, and y.
-fn seventh(a: u8, x: i32, y: i32) -> i32
-    requires { ⌜ a * natAbs x + natAbs y ≤ 1000000000 ⌝ }
-    ensures { λ r. ⌜ Is (points.nearest (pos a *ℤ x +ℤ y)) 1000000000 r ⌝ }
-{
-    nearest_seventh(scaled(a, x, y))
+    image(1, p, !ccw)
 }
 
 // Up by aperture 7.
