@@ -88,3 +88,9 @@ pub fn is_pentagon(c: Cell) -> bool
     }
     false
 }
+
+pub fn resolution_number(r: Resolution) -> u64
+    ensures { λ k. ⌜ k ≡ r .0 ⌝ }
+{
+    r.0
+}

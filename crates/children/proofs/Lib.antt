@@ -1,0 +1,9 @@
+pub mod Strings
+pub mod Counts
+pub mod Below
+pub mod Places
+pub mod Start
+pub mod Tab
+pub mod Ranks
+pub mod Exact
+pub mod Whole

@@ -1,0 +1,3 @@
+pub mod Descendants
+pub mod Positions
+pub mod Carries
