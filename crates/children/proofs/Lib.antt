@@ -7,3 +7,8 @@ pub mod Tab
 pub mod Ranks
 pub mod Exact
 pub mod Whole
+pub mod Ancestors
+pub mod Carry
+pub mod Odometer
+pub mod Rounds
+pub mod Moves

@@ -1,12 +1,13 @@
 -- Document 01, 'Counts and listings': the Rust skips the K digit by `skip_count`, starting at the target resolution and falling by one
 -- per skip; -1 for other cells. The next child by carry on the packed number.
+use mathlib.Core.Path.{_≡_}
 use mathlib.Core.Bool.{Bool, true, false, cond, _&&_}
 use mathlib.Core.List.{List, [], _∷_}
-use Prim.Native.Nat.{ℕ, zero, suc, _+_, _/_, _%_}
+use Prim.Native.Nat.{ℕ, zero, suc, _+_, _-_, _*_, _/_, _%_, _^_}
 use lib.Dec.{eqb, ltb}
 use lib.IntN.{ℤ, pos, negsuc, predℤ}
 use lib.ListN.{length}
-use Rattle.index.specs.View.{used, first}
+use Rattle.index.specs.View.{used, octal, first}
 use Rattle.index.specs.Layout.{resOf}
 use Rattle.children.specs.Descendants.{pentagon}
 
@@ -39,3 +40,9 @@ carried s own (d ∷ ds) =
 unfoldable pub fallen : ℤ → ℕ → List ℕ → ℤ
 fallen s own [] = s
 fallen s own (d ∷ ds) = cond (eqb d 0 && skipsAt s (own + suc (length ds))) (predℤ s) (cond (ltb d 6) s (fallen s own ds))
+
+-- the number y and the skip s after the number x and the skip z
+pub record Advanced (x : ℕ) (z : ℤ) (own target y : ℕ) (s : ℤ) : Type 0 where
+  pub digits : let ds = octs (target - own) (x / 8 ^ (15 - target)) in
+      y + 8 ^ (15 - target) * octal ds ≡ x + 8 ^ (15 - target) * octal (carried z own ds)
+  pub skip : s ≡ fallen z own (octs (target - own) (x / 8 ^ (15 - target)))

@@ -1,14 +1,17 @@
 // Port of index/iterator/children.rs: the listing and the cursor go from child to child on the packed number.
 ghost use mathlib.Core.Path.{_≡_};
+ghost use mathlib.Core.Bool.{cond, _&&_};
 ghost use mathlib.Core.List.{_++_};
 ghost use Prim.Native.Nat.{_+_, _-_, _*_, _/_, _^_, _≤_, _<_};
+ghost use lib.Dec.{eqb};
 ghost use lib.ListN.{length, drop};
 ghost use lib.IntN.{pos, negsuc, predℤ, natAbs};
 ghost use Rattle.index.specs.Layout.{Valid, resOf};
 ghost use Rattle.index.specs.View.{octal, Digits};
 ghost use Rattle.children.specs.Descendants.{countOf};
 ghost use Rattle.children.specs.Positions.{childAt, listing};
-ghost use Rattle.children.specs.Carries.{skipOf, skipsAt, octs, carried, fallen};
+ghost use Rattle.children.specs.Carries.{skipOf, skipsAt, octs, Advanced};
+use crate::count::children_count;
 use index::Cell;
 use index::Resolution;
 use index::inside::direction;
@@ -34,4 +37,87 @@ pub(crate) fn get_starting_state(c: Cell, t: Resolution) -> u64
     let m = resolution_number(t) - resolution_number(own);
     let cleared = n - (span - unit);
     cleared + m * ONE_RESOLUTION
+}
+
+// The number that the next child is made in, and the resolution where the digit 1 is skipped next, or -1.
+struct Scratch {
+    number: u64,
+    skip: i32,
+}
+
+fn is_skipped(skip: i32, r: u64, direction: u64) -> bool
+    requires { ⌜ r ≤ 15 ⌝ }
+    ensures { λ t. ⌜ t ≡ (eqb direction 1 && skipsAt skip r) ⌝ }
+{
+    if direction == 1 {
+        return skip == (r as i32);
+    }
+    false
+}
+
+fn fall(skip: i32) -> i32
+    requires { ⌜ natAbs skip ≤ 15 ⌝ }
+    ensures { λ r. ⌜ r ≡ predℤ skip ⌝ }
+{
+    skip - 1
+}
+
+fn advance(number: u64, skip: i32, own: u64, target: u64) -> Scratch
+    requires { ⌜ (own ≤ target) × (target ≤ 15) × (number < 2 ^ 60) × Digits (octs (target - own) (number / 8 ^ (15 - target))) ⌝ }
+    ensures { λ s. ⌜ Advanced number skip own target (s .number) (s .skip) ⌝ }
+{
+    let mut bits = number;
+    let mut r = target;
+    while own < r {
+        let one = place(resolution(r));
+        bits += one;
+        let d = direction(bits, resolution(r));
+        if is_skipped(skip, r, d) {
+            return Scratch {
+                number: bits + one,
+                skip: fall(skip),
+            };
+        }
+        if d < 7 {
+            return Scratch {
+                number: bits,
+                skip,
+            };
+        }
+        bits -= 7 * one;
+        r -= 1;
+    }
+    Scratch { number: bits, skip }
+}
+
+// The skip where the digits 1 to z are 0 and no more: the digit 1 of resolution z is the next to be skipped.
+fn skip_count(pentagon: bool, z: u64) -> i32
+    requires { ⌜ z ≤ 15 ⌝ }
+    ensures { λ s. ⌜ s ≡ cond pentagon (pos z) (negsuc 0) ⌝ }
+{
+    if pentagon {
+        return z as i32;
+    }
+    -1
+}
+
+// All descendants of c at the resolution t.
+pub fn list(c: Cell, t: Resolution, buf: &mut [u64])
+    requires { ⌜ Valid (c .0) × (resOf (c .0) ≤ t .0) × (t .0 ≤ 15) × (countOf (c .0) (t .0) ≤ length (now buf)) ⌝ }
+    ensures { λ _. ⌜ now (buf .exit) ≡ listing (c .0) (t .0) ++ drop (countOf (c .0) (t .0)) (now (buf .entry)) ⌝ }
+{
+    let own = resolution_number(resolution_of(c));
+    let target = resolution_number(t);
+    let last = (children_count(c, t) - 1) as usize;
+    let mut number = get_starting_state(c, t);
+    let mut skip = skip_count(is_pentagon(c), target);
+    let mut i = 0;
+    while i < last {
+        buf[i] = number;
+        let s = advance(number, skip, own, target);
+        number = s.number;
+        skip = s.skip;
+        i += 1;
+    }
+    buf[last] = number;
 }

@@ -3,6 +3,7 @@ mod children;
 mod count;
 mod rank;
 
+pub use children::list;
 pub use count::children_count;
 pub use rank::Found;
 pub use rank::child_at;

@@ -1,0 +1,47 @@
+-- The ancestor of a cell: the cell is among its descendants, and it is the only such cell of its resolution. Assumes nothing.
+use mathlib.Core.Path.{_≡_, refl, sym, ap, _∙_, subst}
+use mathlib.Core.Bool.{Bool, true, false, _&&_, false≢true}
+use Prim.Native.Nat.{ℕ, _^_, _≤_, _<_}
+use native.Mathlib.Omega.{arith}
+use lib.Dec.{eqb, leb}
+use borrow.Author.Tests.{leb-true, eqb-true, le-leb, eq-eqb}
+use Rattle.index.specs.Layout.{resOf, baseOf, Valid}
+use Rattle.index.specs.View.{used, pack}
+use Rattle.index.specs.Ancestor.{ancestorOf}
+use Rattle.index.proofs.View.{packed}
+use Rattle.index.proofs.Cut.{ancestor-valid, ancestor-res, ancestor-base, ancestor-fits, ancestor-used}
+use Rattle.children.specs.Descendants.{Descendant}
+use Rattle.children.specs.Positions.{under}
+use Rattle.children.proofs.Strings.{used-digit, digit-used}
+
+-- valid and of the resolution t: `ancestor-valid`, `ancestor-res` of index
+pub ancestor-above : (y t : ℕ) → y < 2 ^ 64 → Valid y → t ≤ resOf y → Descendant (ancestorOf y t) (resOf y) y
+ancestor-above y t h v l =
+    let e : resOf (ancestorOf y t) ≡ t = ancestor-res y t v l in
+    record {
+      fits = h;
+      fine = refl;
+      base = sym (ancestor-base y t v l);
+      lead = rw e (used-digit y (ancestorOf y t) t (sym (ancestor-used y t v l)));
+      valid = v;
+    }
+
+pub ancestor-only : (a y t : ℕ) → a < 2 ^ 64 → Valid a → Descendant a t y → a ≡ ancestorOf y (resOf a)
+unfolding ancestorOf
+ancestor-only a y t h v d = sym (packed a h v) ∙ rw (← (d .base), ← (digit-used y a (resOf a) (d .lead)))
+
+and-parts : (a b : Bool) → a && b ≡ true → (a ≡ true) × (b ≡ true)
+and-parts true b e = (refl, e)
+and-parts false b e = absurd (false≢true e)
+
+-- the test of refusal 12
+pub under-descendant : (n y : ℕ) → y < 2 ^ 64 → Valid y → under n y ≡ true → (resOf n ≤ resOf y) × Descendant n (resOf y) y
+under-descendant n y h v e =
+    let p = and-parts (leb (resOf n) (resOf y)) (eqb (ancestorOf y (resOf n)) n) e in
+    let l = leb-true (resOf n) (resOf y) (p .0) in
+    (l, subst (λ (a : ℕ). Descendant a (resOf y) y) (eqb-true (ancestorOf y (resOf n)) n (p .1)) (ancestor-above y (resOf n) h v l))
+
+pub descendant-under : (n y t : ℕ) → n < 2 ^ 64 → Valid n → resOf n ≤ t → Descendant n t y → under n y ≡ true
+descendant-under n y t h v l d =
+    let g : resOf n ≤ resOf y = rw (d .fine) l in
+    rw (le-leb (resOf n) (resOf y) g, eq-eqb (ancestorOf y (resOf n)) n (sym (ancestor-only n y t h v d)))
