@@ -12,3 +12,4 @@ pub mod Carry
 pub mod Odometer
 pub mod Rounds
 pub mod Moves
+pub mod Walks
