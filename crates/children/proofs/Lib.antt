@@ -13,3 +13,5 @@ pub mod Odometer
 pub mod Rounds
 pub mod Moves
 pub mod Walks
+pub mod Stands
+pub mod Judging

@@ -11,7 +11,9 @@ ghost use Rattle.index.specs.View.{octal, Digits};
 ghost use Rattle.children.specs.Descendants.{countOf};
 ghost use Rattle.children.specs.Positions.{childAt, listing};
 ghost use Rattle.children.specs.Carries.{skipOf, skipsAt, octs, Advanced};
+ghost use Rattle.children.specs.Cursors.{cursorAt, nextOf};
 use crate::count::children_count;
+use crate::legal::is_legal;
 use index::Cell;
 use index::Resolution;
 use index::inside::direction;
@@ -91,7 +93,7 @@ fn advance(number: u64, skip: i32, own: u64, target: u64) -> Scratch
 }
 
 // The skip where the digits 1 to z are 0 and no more: the digit 1 of resolution z is the next to be skipped.
-fn skip_count(pentagon: bool, z: u64) -> i32
+pub(crate) fn skip_count(pentagon: bool, z: u64) -> i32
     requires { ⌜ z ≤ 15 ⌝ }
     ensures { λ s. ⌜ s ≡ cond pentagon (pos z) (negsuc 0) ⌝ }
 {
@@ -120,4 +122,72 @@ pub fn list(c: Cell, t: Resolution, buf: &mut [u64])
         i += 1;
     }
     buf[last] = number;
+}
+
+pub struct Cursor {
+    pub own: u32,
+    pub target: u32,
+    pub number: u64,
+    pub skip: i32,
+    pub left: u64,
+}
+
+// What a call gives. The cursor handed back is the following one, or the same where there is no child.
+pub enum Given {
+    Child(u64, Cursor),
+    Done(Cursor),
+    Refused(Cursor),
+}
+
+impl Cursor {
+    pub fn new(c: Cell, t: Resolution) -> Cursor
+        requires { ⌜ Valid (c .0) × (resOf (c .0) ≤ t .0) × (t .0 ≤ 15) ⌝ }
+        ensures { λ r. ⌜ r ≡ cursorAt (c .0) (t .0) 0 ⌝ }
+    {
+        let own = resolution_number(resolution_of(c));
+        let target = resolution_number(t);
+        Cursor {
+            own: own as u32,
+            target: target as u32,
+            number: get_starting_state(c, t),
+            skip: skip_count(is_pentagon(c), target),
+            left: children_count(c, t),
+        }
+    }
+
+    pub fn next(self) -> Given
+        ensures { λ r. ⌜ r ≡ nextOf self ⌝ }
+    {
+        if is_legal(self) {
+            let left = self.left;
+            if left == 0 {
+                return Given::Done(self);
+            }
+            let number = self.number;
+            if left == 1 {
+                return Given::Child(
+                    number,
+                    Cursor {
+                        own: self.own,
+                        target: self.target,
+                        number,
+                        skip: self.skip,
+                        left: 0,
+                    },
+                );
+            }
+            let s = advance(number, self.skip, self.own as u64, self.target as u64);
+            return Given::Child(
+                number,
+                Cursor {
+                    own: self.own,
+                    target: self.target,
+                    number: s.number,
+                    skip: s.skip,
+                    left: left - 1,
+                },
+            );
+        }
+        Given::Refused(self)
+    }
 }

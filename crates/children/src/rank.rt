@@ -83,7 +83,7 @@ fn unbumped(pent: bool, v: u64) -> u64
 }
 
 // The position of the digits own + 1 to own + m of n.
-fn rank_of(pent: bool, n: u64, own: u64, m: u64) -> u64
+pub(crate) fn rank_of(pent: bool, n: u64, own: u64, m: u64) -> u64
     requires { ⌜ own + m ≤ 15 ⌝ }
     ensures { λ r. ⌜ r ≡ rankOf pent (seg n own m) ⌝ }
 {
