@@ -30,7 +30,7 @@ pub ancestor-only : (a y t : ℕ) → a < 2 ^ 64 → Valid a → Descendant a t 
 unfolding ancestorOf
 ancestor-only a y t h v d = sym (packed a h v) ∙ rw (← (d .base), ← (digit-used y a (resOf a) (d .lead)))
 
-and-parts : (a b : Bool) → a && b ≡ true → (a ≡ true) × (b ≡ true)
+pub and-parts : (a b : Bool) → a && b ≡ true → (a ≡ true) × (b ≡ true)
 and-parts true b e = (refl, e)
 and-parts false b e = absurd (false≢true e)
 

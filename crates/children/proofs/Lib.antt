@@ -15,3 +15,4 @@ pub mod Moves
 pub mod Walks
 pub mod Stands
 pub mod Judging
+pub mod Calls
