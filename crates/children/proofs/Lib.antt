@@ -16,3 +16,4 @@ pub mod Walks
 pub mod Stands
 pub mod Judging
 pub mod Calls
+pub mod Reach

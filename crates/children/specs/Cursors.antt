@@ -66,3 +66,14 @@ handed (Refused c) = c
 unfoldable pub after : ℕ → Cursor → Cursor
 after zero c = c
 after (suc k) c = handed (nextOf (after k c))
+
+-- a fresh cursor and some number of calls make c
+pub record Made (c : Cursor) : Type 0 where
+  pub cell : ℕ
+  pub finer : ℕ
+  pub calls : ℕ
+  pub fits : cell < 2 ^ 64
+  pub valid : Valid cell
+  pub low : resOf cell ≤ finer
+  pub high : finer ≤ 15
+  pub same : c ≡ after calls (cursorAt cell finer 0)
