@@ -1,7 +1,7 @@
 -- A cursor that is legal stands at a child; what a call of it gives. Assumes nothing.
 use mathlib.Core.Path.{_≡_, refl, sym, ap, _∙_, subst}
-use mathlib.Core.Bool.{Bool, true, false, cond, _&&_, false≢true}
-use Prim.Native.Nat.{ℕ, zero, suc, _+_, _-_, _/_, _^_, _≤_, _<_}
+use mathlib.Core.Bool.{true, false, cond, false≢true}
+use Prim.Native.Nat.{ℕ, suc, _+_, _-_, _/_, _^_, _≤_, _<_}
 use native.Mathlib.Numerals.{add-one}
 use native.Mathlib.Omega.{arith}
 use lib.Dec.{eqb, leb}
@@ -12,7 +12,6 @@ use mir.Val.{SFits, toZ, ofZ}
 use mir.Facts.{toZ-ofZ}
 use Rattle.index.specs.Layout.{resOf, Valid}
 use Rattle.index.specs.View.{Digits}
-use Rattle.index.specs.Ancestor.{ancestorOf}
 use Rattle.index.specs.Refusals.{Outcome, answered, refused}
 use Rattle.index.specs.Check.{cellRules, checkOf}
 use Rattle.index.proofs.Rules.{answered-clear}
@@ -20,9 +19,8 @@ use Rattle.index.proofs.Validity.{clear-valid}
 use Rattle.children.specs.Descendants.{Descendant, countOf}
 use Rattle.children.specs.Positions.{childAt, positionOf}
 use Rattle.children.specs.Carries.{skipOf, octs, Advanced}
-use Rattle.children.specs.Cursors.{cursorAt, ownerOf, accepted, sameZ, counted, placed, legal, nextOf}
+use Rattle.children.specs.Cursors.{cursorAt, ownerOf, accepted, sameZ, counted, legal, nextOf}
 use Rattle.children.specs.declared.children.Cursor.{Cursor}
-use Rattle.children.specs.declared.children.Given.{Given}
 use Rattle.children.specs.declared.children.Given.the-variants.{Child, Done, Refused}
 use Rattle.children.proofs.Exact.{complete}
 use Rattle.children.proofs.Ancestors.{and-parts, ancestor-above}

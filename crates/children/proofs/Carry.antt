@@ -3,21 +3,21 @@ use mathlib.Core.Path.{_≡_, refl, sym, ap, _∙_, subst}
 use mathlib.Core.Bool.{Bool, true, false, cond, _&&_}
 use mathlib.Core.Logic.{⊎-elim, _⊎_}
 use mathlib.Core.List.{List, [], _∷_, _++_}
-use Prim.Native.Nat.{ℕ, zero, suc, _+_, _*_, _/_, _%_, _≤_, _<_}
+use Prim.Native.Nat.{ℕ, zero, suc, _+_, _/_, _%_, _≤_, _<_}
 use native.Mathlib.Nat.{eq-or-lt-of-le, eq-zero-or-pos, add-suc, le-of-suc-le-suc, not-suc-le-zero}
 use native.Mathlib.Omega.{arith}
-use lib.Dec.{eqb, ltb}
-use lib.IntN.{ℤ, pos, negsuc, predℤ}
+use lib.Dec.{eqb}
+use lib.IntN.{ℤ, pos, negsuc}
 use lib.ListN.{length, length-append}
 use borrow.Author.Tests.{lt-ltb, le-ltb, eq-eqb, ne-eqb}
 use Rattle.index.specs.Layout.{digit}
 use Rattle.index.specs.View.{used, first}
 use Rattle.index.proofs.Runs.{length-used}
 use Rattle.children.specs.Descendants.{count}
-use Rattle.children.specs.Positions.{bump, below}
+use Rattle.children.specs.Positions.{below}
 use Rattle.children.specs.Carries.{lead, skipsAt, carried, fallen}
 use Rattle.children.proofs.Counts.{up}
-use Rattle.children.proofs.Below.{length-below, first-zero, first-far}
+use Rattle.children.proofs.Below.{first-zero, first-far}
 use Rattle.children.proofs.Strings.{first-append}
 
 -- the skip over the digits below a cell of resolution `own`

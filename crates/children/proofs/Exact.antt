@@ -1,9 +1,9 @@
 -- Each position has a descendant and each descendant a position; a later position has a greater descendant. Assumes nothing.
-use mathlib.Core.Path.{_≡_, refl, sym, ap, _∙_, subst}
+use mathlib.Core.Path.{_≡_, refl, ap, _∙_, subst}
 use mathlib.Core.Bool.{Bool, true, false, _&&_, false≢true}
 use mathlib.Core.Logic.{⊎-elim}
-use mathlib.Core.List.{List, [], _∷_, _++_}
-use Prim.Native.Nat.{ℕ, zero, suc, _+_, _-_, _*_, _^_, _≤_, _<_}
+use mathlib.Core.List.{List, _++_}
+use Prim.Native.Nat.{ℕ, _+_, _-_, _^_, _≤_, _<_}
 use native.Mathlib.Nat.{eq-or-lt-of-le}
 use native.Mathlib.Decide.{decLe}
 use native.Mathlib.Omega.{arith}
@@ -11,8 +11,7 @@ use lib.Dec.{eqb}
 use lib.ListN.{length, length-append}
 use borrow.Author.Tests.{eqb-true}
 use Rattle.index.specs.Layout.{resOf, baseOf, isPentagonal, firstOf, Valid}
-use Rattle.index.specs.View.{used, octal, pack, first, Digits, Fit}
-use Rattle.index.proofs.Runs.{length-used}
+use Rattle.index.specs.View.{used, first, Digits, Fit}
 use Rattle.index.proofs.View.{packed, fit, first-used}
 use Rattle.children.specs.Descendants.{Descendant, pentagon, count, countOf}
 use Rattle.children.specs.Positions.{below, rank, childAt, seg, positionOf}

@@ -1,11 +1,10 @@
 -- The judging of a cursor, in the words of its calls. Assumes nothing.
-use mathlib.Core.Path.{_≡_, refl, sym, ap, _∙_, subst}
-use mathlib.Core.Bool.{Bool, true, false, cond, _&&_}
-use Prim.Native.Nat.{ℕ, zero, suc, _+_, _-_, _^_, _≤_, _<_}
+use mathlib.Core.Path.{_≡_, sym, ap, _∙_, subst}
+use mathlib.Core.Bool.{Bool, true, false, cond}
+use Prim.Native.Nat.{ℕ, _+_, _-_, _^_, _≤_, _<_}
 use native.Mathlib.Omega.{arith}
-use lib.Dec.{eqb, leb}
+use lib.Dec.{eqb}
 use lib.IntN.{ℤ, pos, negsuc}
-use lib.ListN.{length}
 use borrow.Author.Tests.{eq-eqb, ne-eqb, le-leb, lt-leb}
 use mir.Syntax.{w32}
 use mir.Val.{SFits, toZ, ofZ}
@@ -13,7 +12,7 @@ use mir.Facts.{toZ-ofZ}
 use Rattle.index.specs.Layout.{resOf, Valid}
 use Rattle.index.specs.View.{used}
 use Rattle.index.specs.Ancestor.{ancestorOf}
-use Rattle.index.specs.Refusals.{answered, refused}
+use Rattle.index.specs.Refusals.{refused}
 use Rattle.index.specs.Check.{checkOf}
 use Rattle.index.proofs.Runs.{length-used}
 use Rattle.index.proofs.Cut.{ancestor-valid, ancestor-res, ancestor-fits}

@@ -1,24 +1,23 @@
 -- What `advance` gives at a child is the next child, and the skip that goes with it. Assumes nothing.
 use mathlib.Core.Path.{_≡_, refl, sym, ap, _∙_, subst}
-use mathlib.Core.Bool.{Bool, true, false, cond, _&&_}
+use mathlib.Core.Bool.{Bool, true, false, cond}
 use mathlib.Core.List.{List, [], _∷_, _++_}
-use Prim.Native.Nat.{ℕ, zero, suc, _+_, _-_, _*_, _/_, _%_, _^_, _≤_, _<_}
+use Prim.Native.Nat.{ℕ, zero, suc, _+_, _-_, _*_, _/_, _^_, _≤_, _<_}
 use native.Mathlib.Nat.{div-div-eq-div-mul, suc-ne-zero}
 use native.Mathlib.Omega.{arith}
-use lib.Dec.{eqb}
 use lib.IntN.{ℤ, pos, negsuc}
 use lib.ListN.{length, getD, drop}
 use Rattle.index.specs.Layout.{digit, resOf, baseOf, firstOf, isPentagonal, Valid}
 use Rattle.index.specs.View.{used, octal, first, Digits}
 use Rattle.index.proofs.Runs.{place, place-suc, length-used}
 use Rattle.index.proofs.View.{first-used}
-use Rattle.children.specs.Descendants.{pentagon, count, countOf}
+use Rattle.children.specs.Descendants.{pentagon, countOf}
 use Rattle.children.specs.Positions.{below, childAt}
 use Rattle.children.specs.Carries.{lead, skipOf, octs, carried, fallen, Advanced}
 use Rattle.children.proofs.Below.{length-below, digits-below, first-zero}
 use Rattle.children.proofs.Start.{child-fits, child-res, child-used, child-sum, some-child}
 use Rattle.children.proofs.Exact.{and-zero}
-use Rattle.children.proofs.Carry.{mark, Stepped, step, lead-none, lead-append}
+use Rattle.children.proofs.Carry.{mark, step, lead-none, lead-append}
 
 -- the used digits, read off the number by division
 shift-octs : (n k : ℕ) → k ≤ 15 → used n k ≡ octs k (n / 2 ^ (3 * (15 - k)))
@@ -78,8 +77,7 @@ module _ (n t : ℕ) (h64 : n < 2 ^ 64) (v : Valid n) (lo : resOf n ≤ t) (hi :
       let w = step f (resOf n) m p h in
       let c : carried (skipOf n (childAt n t p)) (resOf n) (octs m (childAt n t p / u)) ≡ below f m (suc p) = rw (child-skip p hp, child-octs p hp) (w .digits) in
       let g : fallen (skipOf n (childAt n t p)) (resOf n) (octs m (childAt n t p / u)) ≡ mark f (resOf n) (below f m (suc p)) = rw (child-skip p hp, child-octs p hp) (w .skip) in
-      let d : y + u * octal (below f m p) ≡ childAt n t p + u * octal (below f m (suc p)) = rw (c, child-octs p hp) at (a .digits) in
-      (
+      let d : y + u * octal (below f m p) ≡ childAt n t p + u * octal (below f m (suc p)) = rw (c, child-octs p hp) at (a .digits) in (
         lin y (childAt n t p) (childAt n t (suc p)) (u * octal (below f m p)) (u * octal (below f m (suc p))) (childAt n t 0) d (child-sum n t h64 v lo hi p hp) (child-sum n t h64 v lo hi (suc p) h),
         a .skip ∙ g ∙ sym (child-skip (suc p) h),
       )

@@ -1,6 +1,6 @@
 -- A loop over the places of digits from the finest up: the unit grows eightfold as the digits that are left become fewer. Assumes nothing.
-use mathlib.Core.Path.{_≡_, refl, sym, ap, _∙_}
-use mathlib.Core.Bool.{Bool, true, false}
+use mathlib.Core.Path.{_≡_, refl}
+use mathlib.Core.Bool.{Bool}
 use Prim.Native.Nat.{ℕ, zero, suc, _+_, _-_, _*_, _/_, _%_, _^_, _≤_, _<_}
 use native.Mathlib.Nat.{le-trans, mul-le-mul-left, pow-suc, not-suc-le-zero}
 use native.Mathlib.Numerals.{sub-one}

@@ -1,19 +1,18 @@
 -- From a fresh cursor the k-th call gives element k of the listing, then Done; and the cursors that are accepted are exactly those that a
 -- fresh cursor and some number of calls make. Assumes nothing.
 use mathlib.Core.Path.{_≡_, refl, sym, ap, _∙_, subst}
-use mathlib.Core.Bool.{Bool, true, false, cond, _&&_}
+use mathlib.Core.Bool.{Bool, true, cond, _&&_}
 use mathlib.Core.Logic.{⊎-elim}
 use Prim.Native.Nat.{ℕ, zero, suc, _+_, _-_, _^_, _≤_, _<_}
 use native.Mathlib.Nat.{eq-zero-or-pos}
 use native.Mathlib.Decide.{decLe}
 use native.Mathlib.Numerals.{add-one}
 use native.Mathlib.Omega.{arith}
-use lib.Dec.{eqb, leb}
+use lib.Dec.{eqb}
 use lib.IntN.{ℤ, pos, negsuc}
 use lib.ListN.{getD}
 use borrow.Author.Tests.{eq-eqb, ne-eqb, le-leb}
 use Rattle.index.specs.Layout.{resOf, Valid}
-use Rattle.index.specs.Check.{checkOf}
 use Rattle.index.specs.Ancestor.{ancestorOf}
 use Rattle.index.proofs.Validity.{valid-accepted}
 use Rattle.children.specs.Descendants.{countOf}
@@ -21,9 +20,8 @@ use Rattle.children.specs.Positions.{childAt, positionOf, listing}
 use Rattle.children.specs.Carries.{skipOf}
 use Rattle.children.specs.Cursors.{cursorAt, ownerOf, accepted, sameZ, legal, nextOf, handed, after, Made}
 use Rattle.children.specs.declared.children.Cursor.{Cursor}
-use Rattle.children.specs.declared.children.Given.{Given}
-use Rattle.children.specs.declared.children.Given.the-variants.{Child, Done, Refused}
-use Rattle.children.proofs.Start.{some-child, child-valid, child-res, child-fits}
+use Rattle.children.specs.declared.children.Given.the-variants.{Child, Done}
+use Rattle.children.proofs.Start.{some-child, child-valid, child-res}
 use Rattle.children.proofs.Exact.{position-child}
 use Rattle.children.proofs.Whole.{listing-at}
 use Rattle.children.proofs.Walks.{owner}
@@ -122,7 +120,7 @@ made-legal c m =
     let k : ℕ = m .calls in
     ap legal (m .same ∙ after-calls n t (m .fits) (m .valid) (m .low) (m .high) k)
     ∙ elim (decLe (countOf n t) k) [
-      yes h ↦ spot-legal (cursorAt n t k) n (countOf n t - 1) (ended n t (m .fits) (m .valid) (m .low) (m .high) k h)
+      | yes h ↦ spot-legal (cursorAt n t k) n (countOf n t - 1) (ended n t (m .fits) (m .valid) (m .low) (m .high) k h)
       | no h ↦ spot-legal (cursorAt n t k) n k (stands n t (m .fits) (m .valid) (m .low) (m .high) k (omega arith))
     ]
 

@@ -1,15 +1,10 @@
 -- The cursor over the descendants of a cell after k of them, by its fields. Assumes nothing.
-use mathlib.Core.Path.{_≡_, refl, sym, ap, _∙_, subst}
-use mathlib.Core.Bool.{Bool, true, false, cond, _&&_}
-use Prim.Native.Nat.{ℕ, zero, suc, _+_, _-_, _^_, _≤_, _<_, min}
+use mathlib.Core.Path.{_≡_, refl, ap}
+use Prim.Native.Nat.{ℕ, _-_, _≤_, _<_, min}
 use native.Mathlib.Nat.{min-eq-left, min-eq-right}
 use native.Mathlib.Omega.{arith}
-use lib.IntN.{ℤ, pos, negsuc}
-use mir.Syntax.{w32}
-use mir.Val.{SFits, toZ, ofZ}
-use mir.Facts.{toZ-ofZ}
-use Rattle.index.specs.Layout.{resOf, Valid}
-use Rattle.children.specs.Descendants.{pentagon, countOf}
+use Rattle.index.specs.Layout.{resOf}
+use Rattle.children.specs.Descendants.{countOf}
 use Rattle.children.specs.Positions.{childAt}
 use Rattle.children.specs.Carries.{skipOf}
 use Rattle.children.specs.Cursors.{cursorAt}

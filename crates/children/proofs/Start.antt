@@ -1,9 +1,9 @@
 -- The child at a position as a number: the cell's own digits, those of the position below them, and its place value from the first child.
 -- Assumes nothing.
 use mathlib.Core.Path.{_≡_, refl, sym, ap, _∙_, subst}
-use mathlib.Core.Bool.{Bool, true, false}
+use mathlib.Core.Bool.{Bool}
 use mathlib.Core.List.{List, _++_}
-use Prim.Native.Nat.{ℕ, zero, suc, _+_, _-_, _*_, _/_, _%_, _^_, _≤_, _<_}
+use Prim.Native.Nat.{ℕ, _+_, _-_, _*_, _^_, _≤_, _<_}
 use native.Mathlib.Nat.{pow-le-pow-right}
 use native.Mathlib.Omega.{arith}
 use lib.Pow.{pow-add}
@@ -12,7 +12,7 @@ use Rattle.index.specs.Layout.{resOf, baseOf, Valid}
 use Rattle.index.specs.View.{used, octal, pack, first, Fit}
 use Rattle.index.proofs.Runs.{eights-pos, length-used}
 use Rattle.index.proofs.View.{packed, fit, first-used, pack-fits, pack-valid, pack-res, pack-base, pack-used}
-use Rattle.children.specs.Descendants.{pentagon, count, countOf}
+use Rattle.children.specs.Descendants.{pentagon, countOf}
 use Rattle.children.specs.Positions.{below, childAt}
 use Rattle.children.proofs.Strings.{octal-append}
 use Rattle.children.proofs.Counts.{count-small, count-pos}

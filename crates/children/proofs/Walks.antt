@@ -2,7 +2,7 @@
 use mathlib.Core.Path.{_≡_, refl, sym, ap, _∙_, subst}
 use mathlib.Core.Bool.{Bool, true, false, cond}
 use mathlib.Core.List.{List, _++_}
-use Prim.Native.Nat.{ℕ, zero, suc, _+_, _-_, _/_, _^_, _≤_, _<_}
+use Prim.Native.Nat.{ℕ, suc, _+_, _-_, _/_, _^_, _≤_, _<_}
 use native.Mathlib.Numerals.{add-one}
 use native.Mathlib.Omega.{arith}
 use lib.IntN.{ℤ, pos, negsuc}
@@ -18,7 +18,7 @@ use Rattle.index.proofs.Runs.{length-used}
 use Rattle.children.specs.Descendants.{pentagon, countOf}
 use Rattle.children.specs.Positions.{childAt, tab, listing}
 use Rattle.children.specs.Carries.{lead, skipOf, octs, Advanced}
-use Rattle.children.proofs.Tab.{tab-none, tab-length, tab-more}
+use Rattle.children.proofs.Tab.{tab-none, tab-more}
 use Rattle.children.proofs.Start.{some-child}
 use Rattle.children.proofs.Exact.{sound}
 use Rattle.children.proofs.Ancestors.{ancestor-only}

@@ -1,17 +1,16 @@
 -- The listing is a listing in the document's words, its length is the count, and no other list is one. Assumes nothing.
 use mathlib.Core.Path.{_≡_, refl, sym, ap, _∙_, subst}
 use mathlib.Core.Logic.{⊎-elim}
-use mathlib.Core.List.{List, [], _∷_, _++_}
-use Prim.Native.Nat.{ℕ, zero, suc, _+_, _-_, _^_, _≤_, _<_}
+use mathlib.Core.List.{List, [], _∷_}
+use Prim.Native.Nat.{ℕ, zero, suc, _^_, _≤_, _<_}
 use native.Mathlib.Nat.{eq-or-lt-of-le, le-of-suc-le-suc, not-suc-le-zero}
 use native.Mathlib.Decide.{decLe}
 use native.Mathlib.Omega.{arith}
 use lib.ListN.{length, getD, List·getD-append}
 use lib.Seq.{getD-at, ext-getD}
 use Rattle.index.specs.Layout.{resOf, Valid}
-use Rattle.index.specs.View.{used, pack}
 use Rattle.index.proofs.View.{packed}
-use Rattle.children.specs.Descendants.{Descendant, pentagon, countOf, Listing}
+use Rattle.children.specs.Descendants.{Descendant, countOf, Listing}
 use Rattle.children.specs.Positions.{childAt, positionOf, tab, listing}
 use Rattle.children.proofs.Strings.{digit-used}
 use Rattle.children.proofs.Tab.{length-tab}
@@ -65,10 +64,10 @@ module _ (n t : ℕ) (k l : List ℕ) (a : Listing n t k) (b : Listing n t l) wh
   at-up : (p q : ℕ) (hp : p < length k) (hq : q < length k) → p < q → at p hp < at q hq
   at-up p q hp hq g =
       elim (decLe (at q hq) (at p hp)) [
-        yes w ↦ absurd (⊎-elim
-          (λ (e : at q hq ≡ at p hp). let z : getD k q 0 ≡ getD k p 0 = sym (at-same q hq) ∙ ap (λ (i : ℕ). getD l i 0) e ∙ at-same p hp in omega (arith, a .ascending p q g hq))
-          (λ (s : at q hq < at p hp). omega (arith, b .ascending (at q hq) (at p hp) s (at-under p hp), at-same p hp, at-same q hq, a .ascending p q g hq))
-          (eq-or-lt-of-le w))
+        | yes w ↦ absurd (⊎-elim
+            (λ (e : at q hq ≡ at p hp). let z : getD k q 0 ≡ getD k p 0 = sym (at-same q hq) ∙ ap (λ (i : ℕ). getD l i 0) e ∙ at-same p hp in omega (arith, a .ascending p q g hq))
+            (λ (s : at q hq < at p hp). omega (arith, b .ascending (at q hq) (at p hp) s (at-under p hp), at-same p hp, at-same q hq, a .ascending p q g hq))
+            (eq-or-lt-of-le w))
         | no w ↦ omega arith
       ]
 

@@ -1,7 +1,7 @@
 -- Document 01, 'Counts and listings': the Rust skips the K digit by `skip_count`, starting at the target resolution and falling by one
 -- per skip; -1 for other cells. The next child by carry on the packed number.
 use mathlib.Core.Path.{_≡_}
-use mathlib.Core.Bool.{Bool, true, false, cond, _&&_}
+use mathlib.Core.Bool.{Bool, false, cond, _&&_}
 use mathlib.Core.List.{List, [], _∷_}
 use Prim.Native.Nat.{ℕ, zero, suc, _+_, _-_, _*_, _/_, _%_, _^_}
 use lib.Dec.{eqb, ltb}

@@ -1,6 +1,6 @@
 -- Document 01, 'Counts and listings': the cursor, which cursors calls of this library could have made, and what a call gives.
 use mathlib.Core.Path.{_≡_}
-use mathlib.Core.Bool.{Bool, true, false, cond, _&&_, _||_}
+use mathlib.Core.Bool.{Bool, true, false, cond, _&&_}
 use Prim.Native.Nat.{ℕ, zero, suc, _+_, _-_, _^_, _≤_, _<_, min}
 use lib.Dec.{eqb, leb}
 use lib.IntN.{ℤ, pos, negsuc}

@@ -7,10 +7,10 @@ ghost use lib.Dec.{eqb};
 ghost use lib.ListN.{length, drop};
 ghost use lib.IntN.{pos, negsuc, predℤ, natAbs};
 ghost use Rattle.index.specs.Layout.{Valid, resOf};
-ghost use Rattle.index.specs.View.{octal, Digits};
+ghost use Rattle.index.specs.View.{Digits};
 ghost use Rattle.children.specs.Descendants.{countOf};
 ghost use Rattle.children.specs.Positions.{childAt, listing};
-ghost use Rattle.children.specs.Carries.{skipOf, skipsAt, octs, Advanced};
+ghost use Rattle.children.specs.Carries.{skipsAt, octs, Advanced};
 ghost use Rattle.children.specs.Cursors.{cursorAt, nextOf};
 use crate::count::children_count;
 use crate::legal::is_legal;
@@ -81,10 +81,7 @@ fn advance(number: u64, skip: i32, own: u64, target: u64) -> Scratch
             };
         }
         if d < 7 {
-            return Scratch {
-                number: bits,
-                skip,
-            };
+            return Scratch { number: bits, skip };
         }
         bits -= 7 * one;
         r -= 1;

@@ -6,8 +6,8 @@ ghost use Rattle.children.specs.Descendants.{count, countOf};
 use index::Cell;
 use index::Resolution;
 use index::inside::is_pentagon;
-use index::inside::resolution_of;
 use index::inside::resolution_number;
+use index::inside::resolution_of;
 
 const SEVENS: [u64; 16] = [
     1,

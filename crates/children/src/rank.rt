@@ -1,10 +1,9 @@
 // Child at position, and position of child.
 ghost use mathlib.Core.Path.{_≡_};
-ghost use mathlib.Core.Bool.{Bool};
 ghost use Prim.Native.Nat.{_+_, _-_, _*_, _^_, _≤_, _<_};
 ghost use Rattle.index.specs.Layout.{Valid, resOf};
 ghost use Rattle.index.specs.View.{octal};
-ghost use Rattle.children.specs.Descendants.{pentagon, countOf};
+ghost use Rattle.children.specs.Descendants.{countOf};
 ghost use Rattle.children.specs.Positions.{bump, unbump, below, childAt, rank as rankOf, seg, foundOf, toldFound};
 use crate::children::get_starting_state;
 use index::Cell;

@@ -1,15 +1,14 @@
 -- The ancestor: the digits cut at t, and 7 below. In the words of the calls `own` is the resolution, u the place of the digit t.
 -- Assumes nothing.
-use mathlib.Core.Path.{_≡_, refl, sym, ap, _∙_, subst}
+use mathlib.Core.Path.{_≡_, sym, ap, _∙_, subst}
 use mathlib.Core.Logic.{⊎-elim}
-use Prim.Native.Nat.{ℕ, zero, suc, _+_, _-_, _*_, _/_, _%_, _^_, _≤_, _<_}
-use native.Mathlib.Nat.{mod-lt, div-one, mod-le, eq-or-lt-of-le, le-of-suc-le-suc, not-suc-le-zero, suc-ne-zero}
+use Prim.Native.Nat.{ℕ, zero, suc, _+_, _-_, _*_, _%_, _^_, _≤_, _<_}
+use native.Mathlib.Nat.{div-one, mod-le, eq-or-lt-of-le, le-of-suc-le-suc, not-suc-le-zero}
 use native.Mathlib.Omega.{arith}
 use lib.Arith.{digits-lt}
 use lib.Pow.{pow-add}
-use borrow.Author.Tests.{ne-eqb}
-use Rattle.index.specs.Layout.{resOf, baseOf, firstOf, isPentagonal, Valid}
-use Rattle.index.specs.View.{used, octal, pack, first, Fit}
+use Rattle.index.specs.Layout.{resOf, baseOf, firstOf, Valid}
+use Rattle.index.specs.View.{used, pack, first, Fit}
 use Rattle.index.specs.Ancestor.{ancestorOf}
 use Rattle.index.proofs.Runs.{eights-pos, run, octal-used, length-used}
 use Rattle.index.proofs.Sum.{sum}

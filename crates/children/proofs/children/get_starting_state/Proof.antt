@@ -1,11 +1,11 @@
 -- `children::children::get_starting_state` meets its contract, by the laws of `Start`. Assumes nothing.
 use borrow.Author.Needs.{needs}
-use mathlib.Core.Path.{_≡_, refl, sym, ap, _∙_}
+use mathlib.Core.Path.{_≡_}
 use Prim.Native.Nat.{ℕ, _-_, _*_, _+_, _^_, _≤_, _<_}
 use native.Mathlib.Omega.{arith}
 use Rattle.index.specs.Layout.{resOf, Valid}
 use Rattle.children.specs.Positions.{childAt}
-use Rattle.children.proofs.Start.{Opened, opened}
+use Rattle.children.proofs.Start.{opened}
 use Rattle.children.proofs.children.get_starting_state.Statement.{statement}
 use Rattle.children.proofs.children.get_starting_state.Tie as tie
 

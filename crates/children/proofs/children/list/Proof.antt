@@ -1,15 +1,15 @@
 -- `children::children::list` meets its contract, by the laws of `Walks`. The loop's invariant: the first i elements are the first i
 -- children, the others are as they were, and the number and the skip are those of the next child. Assumes nothing.
 use borrow.Author.Needs.{needs}
-use mathlib.Core.Path.{_≡_, refl, sym, ap, _∙_, subst}
+use mathlib.Core.Path.{_≡_, sym, ap, _∙_, subst}
 use mathlib.Core.Bool.{Bool, cond}
 use mathlib.Core.List.{List}
-use Prim.Native.Nat.{ℕ, _+_, _-_, _*_, _^_, _≤_, _<_}
+use Prim.Native.Nat.{ℕ, _-_, _≤_, _<_}
 use native.Mathlib.Omega.{arith}
 use lib.IntN.{ℤ, pos, negsuc}
 use lib.ListN.{length, length-set}
 use mir.Syntax.{w32}
-use mir.Val.{toZ, ofZ}
+use mir.Val.{toZ}
 use Rattle.index.specs.Layout.{resOf}
 use Rattle.index.specs.Ancestor.{ancestorOf}
 use Rattle.children.specs.Descendants.{pentagon, countOf}

@@ -1,7 +1,5 @@
 -- `children::count::count_down` meets its contract. Assumes nothing.
 use borrow.Author.Needs.{needs}
-use mathlib.Core.Path.{_≡_, ap}
-use Prim.Native.Nat.{ℕ, _^_, _+_, _-_, _*_, _/_, _≤_}
 use native.Mathlib.Nat.{one-le-pow, pow-le-pow-right}
 use native.Mathlib.Omega.{arith}
 use Rattle.children.proofs.count.count_down.Statement.{statement}

@@ -1,12 +1,11 @@
 -- `children::count::sevens` meets its contract: the table is tested at each entry. Assumes nothing.
 use borrow.Author.Needs.{needs}
-use mathlib.Core.Path.{_≡_}
 use mathlib.Core.List.{List, [], _∷_}
 use Prim.Native.Nat.{ℕ, _^_}
 use native.Mathlib.Omega.{arith}
 use lib.Dec.{eqb, eqb→eq}
 use lib.ListN.{getD}
-use Rattle.index.proofs.Every.{every, every-at}
+use Rattle.index.proofs.Every.{every-at}
 use Rattle.children.proofs.count.sevens.Statement.{statement}
 use Rattle.children.proofs.count.sevens.Tie as tie
 

@@ -1,7 +1,6 @@
 -- `children::legal::is_placed` meets its contract, by the laws of `Judging`. Assumes nothing.
 use borrow.Author.Needs.{needs}
-use mathlib.Core.Path.{_≡_, refl, sym, ap, _∙_, subst}
-use Prim.Native.Nat.{ℕ, _-_, _≤_, _<_}
+use mathlib.Core.Path.{sym, ap, _∙_, subst}
 use native.Mathlib.Omega.{arith}
 use Rattle.index.specs.Layout.{Valid}
 use Rattle.index.specs.Ancestor.{ancestorOf}

@@ -1,12 +1,11 @@
 -- `children::legal::leading` meets its contract. The loop's invariant: the digits that were passed are 0. Assumes nothing.
 use borrow.Author.Needs.{needs}
 use mathlib.Core.Path.{_≡_, refl, sym, ap, _∙_, subst}
-use Prim.Native.Nat.{ℕ, suc, _+_, _-_, _≤_, _<_}
+use Prim.Native.Nat.{ℕ, suc, _-_, _≤_}
 use native.Mathlib.Numerals.{add-one}
 use native.Mathlib.Omega.{arith}
 use Rattle.index.specs.Layout.{digit}
 use Rattle.index.specs.View.{used, first}
-use Rattle.children.specs.Carries.{lead}
 use Rattle.children.proofs.Carry.{lead-at, lead-all, first-more}
 use Rattle.children.proofs.legal.leading.Statement.{statement}
 use Rattle.children.proofs.legal.leading.Tie as tie

@@ -1,11 +1,11 @@
 -- `children::rank::put_digits` meets its contract. The loop's invariant: what is there and the digits that are left make the same number throughout.
 -- Assumes nothing.
 use borrow.Author.Needs.{needs}
-use mathlib.Core.Path.{_≡_, refl, sym, ap, _∙_}
-use Prim.Native.Nat.{ℕ, _^_, _+_, _-_, _*_, _/_, _%_, _≤_, _<_}
+use mathlib.Core.Path.{_≡_, refl, sym, _∙_}
+use Prim.Native.Nat.{_^_, _+_, _-_, _*_, _/_, _%_, _≤_, _<_}
 use native.Mathlib.Omega.{arith}
 use Rattle.index.specs.View.{octal}
-use Rattle.children.specs.Positions.{below, bump}
+use Rattle.children.specs.Positions.{below}
 use Rattle.children.proofs.Places.{put, room-again, unit-fits, digit-fits, octal-none}
 use Rattle.children.proofs.rank.put_digits.Statement.{statement}
 use Rattle.children.proofs.rank.put_digits.Tie as tie

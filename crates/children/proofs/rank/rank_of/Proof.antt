@@ -1,6 +1,6 @@
 -- `children::rank::rank_of` meets its contract. The loop's invariant: the rank of the digits that were read. Assumes nothing.
 use borrow.Author.Needs.{needs}
-use mathlib.Core.Path.{_≡_, refl, sym, ap, _∙_}
+use mathlib.Core.Path.{_≡_, refl, _∙_}
 use mathlib.Core.Bool.{Bool, true, false}
 use Prim.Native.Nat.{ℕ, zero, suc, _+_, _-_, _*_, _^_, _≤_, _<_}
 use native.Mathlib.Nat.{pow-suc, pow-le-pow-right}
@@ -68,8 +68,7 @@ loop-less c = search needs
 loop-again : tie.Need-loop-again Inv-loop μ-loop
 loop-again c =
     let l = c .before .before .before .before .loop in
-    let d = c .before .direction in
-    (
+    let d = c .before .direction in (
       l .inv .0,
       omega arith,
       more _ _ _ (l .i) (l .acc) _ _ _ (l .inv .2) (c .before .before .resolution .ensures) (d .ensures) (c .unbumped .ensures),

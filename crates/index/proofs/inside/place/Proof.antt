@@ -1,6 +1,6 @@
 -- `index::inside::place` meets its contract: the shift loses no bit. Assumes nothing.
 use borrow.Author.Needs.{needs}
-use mathlib.Core.Path.{_≡_, _∙_}
+use mathlib.Core.Path.{_∙_}
 use Prim.Native.Nat.{ℕ, _*_, _-_}
 use native.Mathlib.Nat.{one-mul}
 use native.Mathlib.Omega.{arith}

@@ -1,14 +1,14 @@
 -- `children::children::Cursor::new` meets its contract. Assumes nothing.
 use borrow.Author.Needs.{needs}
-use mathlib.Core.Path.{_≡_, refl, sym, ap, _∙_, subst}
+use mathlib.Core.Path.{_≡_, sym, ap, _∙_, subst}
 use mathlib.Core.Bool.{Bool, cond}
-use Prim.Native.Nat.{ℕ, _-_, _≤_, _<_}
+use Prim.Native.Nat.{ℕ}
 use native.Mathlib.Omega.{arith}
-use lib.IntN.{ℤ, pos, negsuc}
+use lib.IntN.{pos, negsuc}
 use mir.Syntax.{w32}
-use mir.Val.{SFits, toZ, ofZ}
+use mir.Val.{SFits}
 use mir.Facts.{toZ-ofZ}
-use Rattle.children.specs.Descendants.{pentagon, countOf}
+use Rattle.children.specs.Descendants.{pentagon}
 use Rattle.children.specs.Positions.{childAt}
 use Rattle.children.specs.Carries.{skipOf}
 use Rattle.children.proofs.Start.{some-child}

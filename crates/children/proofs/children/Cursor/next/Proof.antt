@@ -1,8 +1,7 @@
 -- `children::children::Cursor::next` meets its contract, by the laws of `Calls`. Assumes nothing.
 use borrow.Author.Needs.{needs}
-use mathlib.Core.Path.{_≡_, refl, sym, ap, _∙_, subst}
+use mathlib.Core.Path.{_≡_, refl, sym, _∙_}
 use mathlib.Core.Bool.{true}
-use Prim.Native.Nat.{ℕ, _-_, _≤_, _<_}
 use native.Mathlib.Omega.{arith}
 use Rattle.children.specs.Positions.{positionOf}
 use Rattle.children.specs.Cursors.{ownerOf, legal}
