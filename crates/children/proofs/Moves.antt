@@ -1,0 +1,87 @@
+-- What `advance` gives at a child is the next child, and the skip that goes with it. Assumes nothing.
+use mathlib.Core.Path.{_≡_, refl, sym, ap, _∙_, subst}
+use mathlib.Core.Bool.{Bool, true, false, cond}
+use mathlib.Core.List.{List, [], _∷_, _++_}
+use Prim.Native.Nat.{ℕ, zero, suc, _+_, _-_, _*_, _/_, _^_, _≤_, _<_}
+use native.Mathlib.Nat.{div-div-eq-div-mul, suc-ne-zero}
+use native.Mathlib.Omega.{arith}
+use lib.IntN.{ℤ, pos, negsuc}
+use lib.ListN.{length, getD, drop}
+use Rattle.index.specs.Layout.{digit, resOf, baseOf, firstOf, isPentagonal, Valid}
+use Rattle.index.specs.View.{used, octal, first}
+use Rattle.plane.specs.Strings.{Digits}
+use Rattle.index.proofs.Runs.{place, place-suc, length-used}
+use Rattle.index.proofs.View.{first-used}
+use Rattle.children.specs.Descendants.{pentagon, countOf}
+use Rattle.children.specs.Positions.{below, childAt}
+use Rattle.children.specs.Carries.{lead, skipOf, octs, carried, fallen, Advanced}
+use Rattle.children.proofs.Below.{length-below, digits-below, first-zero}
+use Rattle.children.proofs.Start.{child-fits, child-res, child-used, child-sum, some-child}
+use Rattle.children.proofs.Exact.{and-zero}
+use Rattle.children.proofs.Carry.{mark, step, lead-none, lead-append}
+
+-- the used digits, read off the number by division
+shift-octs : (n k : ℕ) → k ≤ 15 → used n k ≡ octs k (n / 2 ^ (3 * (15 - k)))
+unfolding used octs
+shift-octs n zero h = refl
+shift-octs n (suc k) h =
+    let e : 15 - k ≡ suc (15 - suc k) = omega arith in
+    let s : n / 2 ^ (3 * (15 - k)) ≡ n / 2 ^ (3 * (15 - suc k)) / 8 = rw (e, place-suc) (sym (div-div-eq-div-mul n (2 ^ (3 * (15 - suc k))) 8)) in
+    rw (← s) (ap (λ (l : List ℕ). digit n (suc k) ∷ l) (shift-octs n k (omega arith)))
+
+pub used-octs : (n k : ℕ) → k ≤ 15 → used n k ≡ octs k (n / 8 ^ (15 - k))
+used-octs n k h = shift-octs n k h ∙ ap (λ (z : ℕ). octs k (n / z)) (place (15 - k))
+
+octs-front : (xs ys : List ℕ) (k x : ℕ) → octs k x ≡ xs ++ ys → octs (length xs) x ≡ xs
+unfolding octs
+octs-front [] ys k x e = refl
+octs-front (a ∷ xs) ys zero x e = absurd (suc-ne-zero _ (sym (ap length e)))
+octs-front (a ∷ xs) ys (suc k) x e = rw (octs-front xs ys k (x / 8) (ap (λ (l : List ℕ). drop 1 l) e), ap (λ (l : List ℕ). getD l 0 0) e)
+
+module _ (n t : ℕ) (h64 : n < 2 ^ 64) (v : Valid n) (lo : resOf n ≤ t) (hi : t ≤ 15) where
+  abbrev f : Bool
+  f = pentagon n
+
+  abbrev m : ℕ
+  m = t - resOf n
+
+  pub child-octs : (p : ℕ) → p < countOf n t → octs m (childAt n t p / 8 ^ (15 - t)) ≡ below f m p
+  child-octs p hp =
+      let y : ℕ = childAt n t p in
+      let w : octs t (y / 8 ^ (15 - t)) ≡ below f m p ++ used n (resOf n) = sym (used-octs y t hi) ∙ child-used n t h64 v lo hi p hp in
+      subst (λ (k : ℕ). octs k (y / 8 ^ (15 - t)) ≡ below f m p) (length-below f m p) (octs-front (below f m p) (used n (resOf n)) t (y / 8 ^ (15 - t)) w)
+
+  pub child-skip : (p : ℕ) → p < countOf n t → skipOf n (childAt n t p) ≡ mark f (resOf n) (below f m p)
+  child-skip p hp = rw (child-res n t h64 v lo hi p hp, child-used n t h64 v lo hi p hp) (go f refl (below f m p))
+    where
+      go : (b : Bool) → f ≡ b → (xs : List ℕ) → cond b (pos (lead (xs ++ used n (resOf n)))) (negsuc 0) ≡ mark b (resOf n) xs
+      go false e xs = refl
+      go true e xs =
+          let z : first (used n (resOf n)) ≡ 0 = first-used n (resOf n) ∙ and-zero (isPentagonal (baseOf n)) (firstOf n (resOf n)) e .1 in
+          ap pos (lead-append xs (used n (resOf n)) z ∙ rw (length-used n (resOf n)))
+
+  pub first-skip : skipOf n (childAt n t 0) ≡ cond f (pos t) (negsuc 0)
+  first-skip = child-skip 0 (some-child n t h64 v lo hi) ∙ go f
+    where
+      go : (b : Bool) → mark b (resOf n) (below b m 0) ≡ cond b (pos t) (negsuc 0)
+      go false = refl
+      go true = ap pos (rw (lead-none (below true m 0) (first-zero m), length-below true m 0) (omega arith))
+
+  -- what `advance` asks
+  pub asked : (p : ℕ) → p < countOf n t → (resOf n ≤ t) × (t ≤ 15) × (childAt n t p < 2 ^ 60) × Digits (octs (t - resOf n) (childAt n t p / 8 ^ (15 - t)))
+  asked p hp = (lo, hi, child-fits n t h64 v lo hi p hp, subst Digits (sym (child-octs p hp)) (digits-below f m p))
+
+  pub moved : (p y : ℕ) (s : ℤ) → suc p < countOf n t → Advanced (childAt n t p) (skipOf n (childAt n t p)) (resOf n) t y s → (y ≡ childAt n t (suc p)) × (s ≡ skipOf n (childAt n t (suc p)))
+  moved p y s h a =
+      let hp : p < countOf n t = omega arith in
+      let u : ℕ = 8 ^ (15 - t) in
+      let w = step f (resOf n) m p h in
+      let c : carried (skipOf n (childAt n t p)) (resOf n) (octs m (childAt n t p / u)) ≡ below f m (suc p) = rw (child-skip p hp, child-octs p hp) (w .digits) in
+      let g : fallen (skipOf n (childAt n t p)) (resOf n) (octs m (childAt n t p / u)) ≡ mark f (resOf n) (below f m (suc p)) = rw (child-skip p hp, child-octs p hp) (w .skip) in
+      let d : y + u * octal (below f m p) ≡ childAt n t p + u * octal (below f m (suc p)) = rw (c, child-octs p hp) at (a .digits) in (
+        lin y (childAt n t p) (childAt n t (suc p)) (u * octal (below f m p)) (u * octal (below f m (suc p))) (childAt n t 0) d (child-sum n t h64 v lo hi p hp) (child-sum n t h64 v lo hi (suc p) h),
+        a .skip ∙ g ∙ sym (child-skip (suc p) h),
+      )
+    where
+      lin : (r y z x x′ s : ℕ) → r + x ≡ y + x′ → s + x ≡ y → s + x′ ≡ z → r ≡ z
+      lin r y z x x′ s d a b = omega arith

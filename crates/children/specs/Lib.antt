@@ -1,0 +1,4 @@
+pub mod Descendants
+pub mod Positions
+pub mod Carries
+pub mod Cursors
