@@ -1,3 +1,5 @@
 pub mod Judges
+pub mod Finers
+pub mod Rooms
 pub mod Rows
 pub mod Unique

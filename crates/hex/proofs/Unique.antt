@@ -8,12 +8,14 @@ use Rattle.index.specs.declared.Refusal.{Refusal}
 use Rattle.index.proofs.Rules.{never, refused-inj, answered-inj}
 use Rattle.plane.specs.declared.ijk.IJK.{IJK}
 use Rattle.plane.specs.declared.ijk.IJ.{IJ}
-use Rattle.hex.specs.Answers.{toldChecked, toldNumber, toldTruth, toldPoint, toldPair}
+use Rattle.hex.specs.Answers.{toldChecked, toldNumber, toldTruth, toldPoint, toldPair, toldStarted}
 use Rattle.hex.specs.declared.answers.Checked.{Checked}
 use Rattle.hex.specs.declared.answers.Number.{Number}
 use Rattle.hex.specs.declared.answers.Truth.{Truth}
 use Rattle.hex.specs.declared.answers.Point.{Point}
 use Rattle.hex.specs.declared.answers.Pair.{Pair}
+use Rattle.hex.specs.declared.answers.Started.{Started}
+use Rattle.children.specs.declared.children.Cursor.{Cursor}
 
 same-refusal : {A : Type 0} (x y : Refusal) → _≡_ {A = Outcome A} (refused (x .0)) (refused (y .0)) → x ≡ y
 same-refusal x y e = let p = refused-inj e in λ i. record { 0 = p i }
@@ -62,3 +64,12 @@ told-pair (Pair.Refused x) (Pair.Refused y) e = ap Pair.Refused (same-refusal x 
 
 pub one-pair : (o : Outcome (IJ)) (r s : Pair) → toldPair r ≡ o → toldPair s ≡ o → r ≡ s
 one-pair o r s p q = told-pair r s (p ∙ sym q)
+
+told-started : (r s : Started) → toldStarted r ≡ toldStarted s → r ≡ s
+told-started (Started.At a) (Started.At b) e = ap Started.At (answered-inj e)
+told-started (Started.At a) (Started.Refused y) e = absurd (never e)
+told-started (Started.Refused x) (Started.At b) e = absurd (never (sym e))
+told-started (Started.Refused x) (Started.Refused y) e = ap Started.Refused (same-refusal x y e)
+
+pub one-started : (o : Outcome Cursor) (r s : Started) → toldStarted r ≡ o → toldStarted s ≡ o → r ≡ s
+one-started o r s p q = told-started r s (p ∙ sym q)

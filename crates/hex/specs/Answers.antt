@@ -1,14 +1,18 @@
 -- Document 01's number and values of each answer.
 use mathlib.Core.Bool.{Bool}
+use mathlib.Core.Option.{Option, none, some}
 use Prim.Native.Nat.{ℕ}
 use Rattle.index.specs.Refusals.{Outcome, answered, refused}
 use Rattle.plane.specs.declared.ijk.IJK.{IJK}
 use Rattle.plane.specs.declared.ijk.IJ.{IJ}
+use Rattle.children.specs.declared.children.Cursor.{Cursor}
+use Rattle.children.specs.declared.children.Given.{Given}
 use Rattle.hex.specs.declared.answers.Checked.{Checked}
 use Rattle.hex.specs.declared.answers.Number.{Number}
 use Rattle.hex.specs.declared.answers.Truth.{Truth}
 use Rattle.hex.specs.declared.answers.Point.{Point}
 use Rattle.hex.specs.declared.answers.Pair.{Pair}
+use Rattle.hex.specs.declared.answers.Started.{Started}
 
 -- the check has no value
 abbrev pub toldChecked : Checked → Outcome (Unit {0})
@@ -30,3 +34,13 @@ toldPoint (Point.Refused x) = refused (x .0)
 abbrev pub toldPair : Pair → Outcome IJ
 toldPair (Pair.At p) = answered p
 toldPair (Pair.Refused x) = refused (x .0)
+
+abbrev pub toldStarted : Started → Outcome Cursor
+toldStarted (Started.At c) = answered c
+toldStarted (Started.Refused x) = refused (x .0)
+
+-- a cursor is refused by 11 alone; it is handed back in each case
+abbrev pub toldGiven : Given → Outcome (Option ℕ)
+toldGiven (Given.Child y c) = answered (some y)
+toldGiven (Given.Done c) = answered none
+toldGiven (Given.Refused c) = refused 11

@@ -10,6 +10,10 @@ infix 20 _gives_
 pub data Row : Type 1 where
   _gives_ : {A : Type 0} → Outcome A → Outcome A → Row
 
+-- the whole list in a buffer of so many elements
+abbrev listed : ℕ → ℕ → ℕ → Outcome (List ℕ)
+listed n t room = cond-list (listOf n t room) (listing n t)
+
 abbrev pub table : List Row
 table =
     (validOf 0 gives refused 2)
@@ -18,6 +22,13 @@ table =
     ∷ (validOf 0x08101fffffffffff gives refused 5)
     ∷ (validOf 0x08001ffffffffffe gives refused 6)
     ∷ (validOf 0x081087ffffffffff gives refused 7)
+    ∷ (countOf 0x08009fffffffffff 0 gives answered 1)
+    ∷ (countOf 0x08009fffffffffff 1 gives answered 6)
+    ∷ (countOf 0x08009fffffffffff 2 gives answered 41)
+    ∷ (countOf 0x08009fffffffffff 15 gives answered 3956301258286)
+    ∷ (listed 0x08009fffffffffff 1 6 gives
+    answered (0x081083ffffffffff ∷ 0x08108bffffffffff ∷ 0x08108fffffffffff ∷ 0x081093ffffffffff ∷ 0x081097ffffffffff ∷ 0x08109bffffffffff ∷ []))
+    ∷ (listed 0x08009fffffffffff 1 5 gives refused 10)
     ∷ []
 
 -- each row of the table is true

@@ -1,7 +1,8 @@
 // What entries answer: a value, or the refusal.
 ghost use mathlib.Core.Path.{_≡_};
 ghost use Rattle.index.specs.Refusals.{numberOf};
-ghost use Rattle.hex.specs.Answers.{toldChecked, toldNumber, toldTruth, toldPoint, toldPair};
+ghost use Rattle.hex.specs.Answers.{toldChecked, toldNumber, toldTruth, toldPoint, toldPair, toldStarted};
+use children::Cursor;
 use index::Refusal;
 use plane::ijk::IJ;
 use plane::ijk::IJK;
@@ -31,6 +32,12 @@ pub enum Point {
 // The IJ form of a point.
 pub enum Pair {
     At(IJ),
+    Refused(Refusal),
+}
+
+// A fresh cursor.
+pub enum Started {
+    At(Cursor),
     Refused(Refusal),
 }
 
@@ -86,6 +93,17 @@ impl Pair {
         match self {
             Pair::At(_) => 0,
             Pair::Refused(x) => x.number(),
+        }
+    }
+}
+
+impl Started {
+    pub fn refusal(self) -> u16
+        ensures { λ r. ⌜ r ≡ numberOf (toldStarted self) ⌝ }
+    {
+        match self {
+            Started::At(_) => 0,
+            Started::Refused(x) => x.number(),
         }
     }
 }

@@ -1,6 +1,7 @@
 // The library's face: the public entries. They take any numbers, and have no `requires`.
 mod answers;
 mod cells;
+mod finer;
 mod judge;
 mod points;
 
@@ -8,8 +9,19 @@ pub use answers::Checked;
 pub use answers::Number;
 pub use answers::Pair;
 pub use answers::Point;
+pub use answers::Started;
 pub use answers::Truth;
+pub use cells::ancestor;
 pub use cells::check;
+pub use cells::child_at;
+pub use cells::count;
+pub use cells::cursor;
+pub use cells::list;
+pub use cells::list_short;
+pub use cells::next;
+pub use cells::position;
+pub use children::Cursor;
+pub use children::Given;
 pub use index::Refusal;
 pub use plane::ijk::IJ;
 pub use plane::ijk::IJK;

@@ -69,3 +69,7 @@ pub cleared : {B : Type 0} (rules more : List Rule) (b : B) → Clear rules → 
 unfolding judged
 cleared [] more b c = refl
 cleared ((j when t) ∷ rules) more b c = rw (c .0) (cleared rules more b (c .1))
+
+pub clear-parts : (rules more : List Rule) → Clear (rules ++ more) → Clear rules × Clear more
+clear-parts [] more c = (tt, c)
+clear-parts ((j when t) ∷ rules) more c = let p = clear-parts rules more (c .1) in ((c .0, p .0), p .1)

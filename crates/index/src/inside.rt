@@ -43,8 +43,8 @@ pub fn digit(d: u64) -> Digit
     Digit(d)
 }
 
+// A refusal of document 01's table; 0 stands for none.
 pub fn refusal(number: u16) -> Refusal
-    requires { ⌜ 1 ≤ number ⌝ }
     ensures { λ x. ⌜ x .0 ≡ number ⌝ }
 {
     Refusal(number)
