@@ -2,17 +2,23 @@
 use mathlib.Core.Path.{_≡_}
 use mathlib.Core.List.{List, [], _∷_}
 use Prim.Native.Nat.{ℕ}
+use lib.ListN.{take}
 use Rattle.index.specs.Refusals.{Outcome, answered, refused}
-use Rattle.hex.specs.Cells.{validOf}
+use Rattle.children.specs.Positions.{listing}
+use Rattle.hex.specs.Cells.{validOf, countOf, listOf}
 
 -- a request's outcome, and what the document says it is
 infix 20 _gives_
 pub data Row : Type 1 where
   _gives_ : {A : Type 0} → Outcome A → Outcome A → Row
 
--- the whole list in a buffer of so many elements
+-- the elements that a listing writes into a buffer of so many
+abbrev written : Outcome ℕ → List ℕ → Outcome (List ℕ)
+written (answered k) l = answered (take k l)
+written (refused k) l = refused k
+
 abbrev listed : ℕ → ℕ → ℕ → Outcome (List ℕ)
-listed n t room = cond-list (listOf n t room) (listing n t)
+listed n t room = written (listOf n t room) (listing n t)
 
 abbrev pub table : List Row
 table =
