@@ -17,14 +17,15 @@ use Rattle.index.specs.Ancestor.{ancestorOf}
 use Rattle.index.proofs.Validity.{valid-accepted}
 use Rattle.children.specs.Descendants.{countOf}
 use Rattle.children.specs.Positions.{childAt, positionOf, listing}
-use Rattle.children.specs.Carries.{skipOf}
-use Rattle.children.specs.Cursors.{cursorAt, ownerOf, accepted, sameZ, legal, nextOf, handed, after, Made}
+use Rattle.children.specs.Skips.{skipOf}
+use Rattle.children.specs.Cursors.{cursorAt, ownerOf, accepted, legal, nextOf, handed, after, Made}
+use Rattle.children.specs.Skips.{sameZ}
 use Rattle.children.specs.declared.children.Cursor.{Cursor}
 use Rattle.children.specs.declared.children.Given.the-variants.{Child, Done}
 use Rattle.children.proofs.Start.{some-child, child-valid, child-res}
 use Rattle.children.proofs.Exact.{position-child}
 use Rattle.children.proofs.Whole.{listing-at}
-use Rattle.children.proofs.Walks.{owner}
+use Rattle.children.proofs.Ancestors.{ancestor-child}
 use Rattle.children.proofs.Stands.{same-cursor, cursor-at, cursor-end}
 use Rattle.children.proofs.Calls.{Spot, legal-spot, done-call, child-given}
 
@@ -44,7 +45,7 @@ module _ (c : Cursor) (n p : ℕ) (s : Spot c n p) where
   pub spot-owner : ownerOf c ≡ n
   spot-owner =
       ap (λ (y : ℕ). ancestorOf y (c .own)) (s .here) ∙ ap (ancestorOf (childAt n (c .target) p)) (sym (s .own))
-      ∙ owner n (c .target) _ (s .fits) (s .valid) (s .low) (s .high) refl p (s .under)
+      ∙ ancestor-child n (c .target) (s .fits) (s .valid) (s .low) (s .high) p (s .under)
 
   pub spot-position : positionOf (ownerOf c) (c .number) ≡ p
   spot-position =
