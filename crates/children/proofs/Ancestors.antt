@@ -11,10 +11,11 @@ use Rattle.index.specs.Layout.{resOf, Valid}
 use Rattle.index.specs.Ancestor.{ancestorOf}
 use Rattle.index.specs.Refusals.{_when_, answered, refused, judged}
 use Rattle.index.proofs.View.{packed}
-use Rattle.index.proofs.Cut.{ancestor-valid, ancestor-res, ancestor-base, ancestor-used}
-use Rattle.children.specs.Descendants.{Descendant}
-use Rattle.children.specs.Positions.{positionOf, under, foundOf}
+use Rattle.index.proofs.Cut.{ancestor-valid, ancestor-res, ancestor-base, ancestor-fits, ancestor-used}
+use Rattle.children.specs.Descendants.{Descendant, countOf}
+use Rattle.children.specs.Positions.{childAt, positionOf, under, foundOf}
 use Rattle.children.proofs.Strings.{used-digit, digit-used}
+use Rattle.children.proofs.Exact.{sound, complete}
 
 -- valid and of the resolution t: `ancestor-valid`, `ancestor-res` of index
 pub ancestor-above : (y t : ℕ) → y < 2 ^ 64 → Valid y → t ≤ resOf y → Descendant (ancestorOf y t) (resOf y) y
@@ -31,6 +32,29 @@ ancestor-above y t h v l =
 pub ancestor-only : (a y t : ℕ) → a < 2 ^ 64 → Valid a → Descendant a t y → a ≡ ancestorOf y (resOf a)
 unfolding ancestorOf
 ancestor-only a y t h v d = sym (packed a h v) ∙ rw (← (d .base), ← (digit-used y a (resOf a) (d .lead)))
+
+pub ancestor-child : (n t : ℕ) → n < 2 ^ 64 → Valid n → resOf n ≤ t → t ≤ 15 → (p : ℕ) → p < countOf n t → ancestorOf (childAt n t p) (resOf n) ≡ n
+ancestor-child n t h v lo hi p hp = sym (ancestor-only n (childAt n t p) t h v (sound n t h v lo hi p hp))
+
+-- a cell y and its ancestor at `own`
+module _ (y own : ℕ) (h64 : y < 2 ^ 64) (v : Valid y) (l : own ≤ resOf y) where
+  abbrev n : ℕ
+  n = ancestorOf y own
+
+  pub own-is : resOf n ≡ own
+  own-is = ancestor-res y own v l
+
+  pub owner-fits : n < 2 ^ 64
+  owner-fits = let f = ancestor-fits y own v l in omega arith
+
+  pub owner-valid : Valid n
+  owner-valid = ancestor-valid y own v l
+
+  pub owner-low : resOf n ≤ resOf y
+  owner-low = rw own-is l
+
+  pub among-children : (positionOf n y < countOf n (resOf y)) × (childAt n (resOf y) (positionOf n y) ≡ y)
+  among-children = complete n (resOf y) owner-fits owner-valid owner-low (omega arith) y (ancestor-above y own h64 v l)
 
 pub and-parts : (a b : Bool) → a && b ≡ true → (a ≡ true) × (b ≡ true)
 and-parts true b e = (refl, e)

@@ -1,7 +1,7 @@
 -- A cursor that is legal stands at a child; what a call of it gives. Assumes nothing.
 use mathlib.Core.Path.{_≡_, refl, sym, ap, _∙_, subst}
 use mathlib.Core.Bool.{true, false, cond, false≢true}
-use Prim.Native.Nat.{ℕ, suc, _+_, _-_, _/_, _^_, _≤_, _<_}
+use Prim.Native.Nat.{ℕ, suc, _+_, _-_, _^_, _≤_, _<_}
 use native.Mathlib.Numerals.{add-one}
 use native.Mathlib.Omega.{arith}
 use lib.Dec.{eqb, leb}
@@ -11,23 +11,24 @@ use mir.Syntax.{w32}
 use mir.Val.{SFits, toZ, ofZ}
 use mir.Facts.{toZ-ofZ}
 use Rattle.index.specs.Layout.{resOf, Valid}
-use Rattle.plane.specs.Strings.{Digits}
 use Rattle.index.specs.Refusals.{Outcome, answered, refused}
 use Rattle.index.specs.Check.{cellRules, checkOf}
 use Rattle.index.proofs.Rules.{answered-clear}
 use Rattle.index.proofs.Validity.{clear-valid}
 use Rattle.children.specs.Descendants.{Descendant, countOf}
 use Rattle.children.specs.Positions.{childAt, positionOf}
-use Rattle.children.specs.Carries.{skipOf, octs, Advanced}
-use Rattle.children.specs.Cursors.{cursorAt, ownerOf, accepted, sameZ, counted, legal, nextOf}
+use Rattle.children.specs.Skips.{skipOf, Inner, Following}
+use Rattle.children.specs.Cursors.{cursorAt, ownerOf, accepted, counted, legal, nextOf}
+use Rattle.children.specs.Skips.{sameZ}
 use Rattle.children.specs.declared.children.Cursor.{Cursor}
 use Rattle.children.specs.declared.children.Given.the-variants.{Child, Done, Refused}
+use Rattle.children.proofs.Start.{child-res}
 use Rattle.children.proofs.Exact.{complete}
 use Rattle.children.proofs.Ancestors.{and-parts, ancestor-above}
 use Rattle.children.proofs.Moves as moves
 use Rattle.children.proofs.Walks.{skip-fits}
 use Rattle.children.proofs.Stands.{same-cursor, cursor-at, cursor-end}
-use Rattle.children.proofs.Judging.{own-is, owner-fits, owner-valid}
+use Rattle.children.proofs.Ancestors.{own-is, owner-fits, owner-valid}
 
 -- a cursor over the descendants of n that stands at the child of position p
 pub record Spot (c : Cursor) (n p : ℕ) : Type 0 where
@@ -118,22 +119,33 @@ module _ (c : Cursor) (n p : ℕ) (s : Spot c n p) where
       same-cursor _ _ (sym (s .own)) refl (sym y) (q ∙ f ∙ s .skip ∙ ap (skipOf n) (sym y)) refl
       ∙ sym (cursor-end n t (p + 1) (omega arith))
 
-  pub asked : (c .own ≤ c .target) × (c .target ≤ 15) × (c .number < 2 ^ 60) × Digits (octs (c .target - c .own) (c .number / 8 ^ (15 - c .target)))
-  asked = rw (← (s .own), s .here) (moves.asked n (c .target) (s .fits) (s .valid) (s .low) (s .high) p (s .under))
+  -- the skip, read back from its bits
+  read : toZ w32 (ofZ w32 (c .skip)) ≡ skipOf n (c .number)
+  read = toZ-ofZ (subst (SFits w32) (sym (s .skip)) (skip-fits n (c .number))) ∙ s .skip
 
-  -- the cursor after another one
-  pub more-cursor : (c .left ≡ 0 → ⊥) → (c .left ≡ 1 → ⊥) → (y : ℕ) (k : ℤ) → Advanced (c .number) (toZ w32 (ofZ w32 (c .skip))) (c .own) (c .target) y k → (z : ℤ) → z ≡ toZ w32 (ofZ w32 k) →
-      _≡_ {A = Cursor} (record { own = c .own; target = c .target; number = y; skip = z; left = c .left - 1 }) (cursorAt n (c .target) (p + 1))
-  more-cursor e₀ e₁ y k a z q =
-      let t : ℕ = c .target in
-      let m : p + c .left ≡ countOf n t = s .more e₀ in
-      let h : suc p < countOf n t = omega arith in
-      let f : toZ w32 (ofZ w32 (c .skip)) ≡ skipOf n (childAt n t p) = toZ-ofZ (subst (SFits w32) (sym (s .skip)) (skip-fits n (c .number))) ∙ s .skip ∙ ap (skipOf n) (s .here) in
-      let b : Advanced (childAt n t p) (skipOf n (childAt n t p)) (resOf n) t y k = rw (f, s .here, ← (s .own)) at a in
-      let w = moves.moved n t (s .fits) (s .valid) (s .low) (s .high) p y k h b in
-      let g : toZ w32 (ofZ w32 k) ≡ skipOf n (childAt n t (suc p)) = toZ-ofZ (subst (SFits w32) (sym (w .1)) (skip-fits n (childAt n t (suc p)))) ∙ w .1 in
-      same-cursor _ _ (sym (s .own)) refl (w .0) (q ∙ g) (omega arith)
-      ∙ sym (cursor-at n t (suc p) h) ∙ ap (cursorAt n t) (sym (add-one p))
+  module _ (e₀ : c .left ≡ 0 → ⊥) (e₁ : c .left ≡ 1 → ⊥) where
+    further : suc p < countOf n (c .target)
+    further = let m = s .more e₀ in omega arith
+
+    pub asked : Inner (c .number) (toZ w32 (ofZ w32 (c .skip))) (c .own) × (c .target ≡ resOf (c .number))
+    asked =
+        let i = moves.inner-child n (c .target) (s .fits) (s .valid) (s .low) (s .high) p further in
+        let j : Inner (c .number) (skipOf n (c .number)) (resOf n) = subst (λ (y : ℕ). Inner y (skipOf n y) (resOf n)) (sym (s .here)) i in (
+          subst (λ (z : ℤ). Inner (c .number) z (c .own)) (sym read) (subst (λ (o : ℕ). Inner (c .number) (skipOf n (c .number)) o) (s .own) j),
+          sym (ap resOf (s .here) ∙ child-res n (c .target) (s .fits) (s .valid) (s .low) (s .high) p (s .under)),
+        )
+
+    -- the cursor after another one
+    pub more-cursor : (y : ℕ) (k : ℤ) → Following (c .number) (c .own) y k → (z : ℤ) → z ≡ toZ w32 (ofZ w32 k) →
+        _≡_ {A = Cursor} (record { own = c .own; target = c .target; number = y; skip = z; left = c .left - 1 }) (cursorAt n (c .target) (p + 1))
+    more-cursor y k a z q =
+        let t : ℕ = c .target in
+        let m = s .more e₀ in
+        let b : Following (childAt n t p) (resOf n) y k = subst (λ (x : ℕ). Following x (resOf n) y k) (s .here) (subst (λ (o : ℕ). Following (c .number) o y k) (sym (s .own)) a) in
+        let w = moves.following-child n t (s .fits) (s .valid) (s .low) (s .high) p further y k b in
+        let g : toZ w32 (ofZ w32 k) ≡ skipOf n (childAt n t (suc p)) = toZ-ofZ (subst (SFits w32) (sym (w .1)) (skip-fits n (childAt n t (suc p)))) ∙ w .1 in
+        same-cursor _ _ (sym (s .own)) refl (w .0) (q ∙ g) (omega arith)
+        ∙ sym (cursor-at n t (suc p) further) ∙ ap (cursorAt n t) (sym (add-one p))
 
 pub child-given : (c d : Cursor) → legal c ≡ true → (c .left ≡ 0 → ⊥) → d ≡ cursorAt (ownerOf c) (c .target) (positionOf (ownerOf c) (c .number) + 1) → Child (c .number) d ≡ nextOf c
 child-given c d e z q = ap (Child (c .number)) q ∙ child-call c e z

@@ -3,22 +3,48 @@ use mathlib.Core.Path.{_≡_, refl, sym, ap, _∙_, subst}
 use mathlib.Core.Bool.{Bool, true, false, cond, _&&_}
 use mathlib.Core.Logic.{⊎-elim, _⊎_}
 use mathlib.Core.List.{List, [], _∷_, _++_}
-use Prim.Native.Nat.{ℕ, zero, suc, _+_, _/_, _%_, _≤_, _<_}
+use Prim.Native.Nat.{ℕ, zero, suc, _+_, _-_, _*_, _/_, _%_, _^_, _≤_, _<_}
 use native.Mathlib.Nat.{eq-or-lt-of-le, eq-zero-or-pos, add-suc, le-of-suc-le-suc, not-suc-le-zero}
 use native.Mathlib.Omega.{arith}
-use lib.Dec.{eqb}
-use lib.IntN.{ℤ, pos, negsuc}
+use lib.Dec.{eqb, ltb}
+use lib.IntN.{ℤ, pos, negsuc, predℤ}
 use lib.ListN.{length, length-append}
 use borrow.Author.Tests.{lt-ltb, le-ltb, eq-eqb, ne-eqb}
 use Rattle.index.specs.Layout.{digit}
-use Rattle.index.specs.View.{used, first}
+use Rattle.index.specs.View.{used, octal, first}
 use Rattle.index.proofs.Runs.{length-used}
 use Rattle.children.specs.Descendants.{count}
 use Rattle.children.specs.Positions.{below}
-use Rattle.children.specs.Carries.{lead, skipsAt, carried, fallen}
+use Rattle.children.specs.Skips.{lead, sameZ}
 use Rattle.children.proofs.Counts.{up}
 use Rattle.children.proofs.Below.{first-zero, first-far}
 use Rattle.children.proofs.Strings.{first-append}
+
+-- the digit 1 of resolution r is skipped
+abbrev pub skipsAt : ℤ → ℕ → Bool
+skipsAt s r = sameZ s (pos r)
+
+-- the m lowest digits of x with eight as its base, the finest first
+unfoldable pub octs : ℕ → ℕ → List ℕ
+octs zero x = []
+octs (suc m) x = x % 8 ∷ octs m (x / 8)
+
+-- one more, with carry and skip, where a cell of resolution `own` is above the digits
+unfoldable pub carried : ℤ → ℕ → List ℕ → List ℕ
+carried s own [] = []
+carried s own (d ∷ ds) =
+    cond (eqb d 0 && skipsAt s (own + suc (length ds))) (2 ∷ ds) (cond (ltb d 6) (suc d ∷ ds) (0 ∷ carried s own ds))
+
+-- the skip after it
+unfoldable pub fallen : ℤ → ℕ → List ℕ → ℤ
+fallen s own [] = s
+fallen s own (d ∷ ds) = cond (eqb d 0 && skipsAt s (own + suc (length ds))) (predℤ s) (cond (ltb d 6) s (fallen s own ds))
+
+-- the number y and the skip s after the number x and the skip z
+pub record Advanced (x : ℕ) (z : ℤ) (own target y : ℕ) (s : ℤ) : Type 0 where
+  pub digits : let ds = octs (target - own) (x / 8 ^ (15 - target)) in
+      y + 8 ^ (15 - target) * octal ds ≡ x + 8 ^ (15 - target) * octal (carried z own ds)
+  pub skip : s ≡ fallen z own (octs (target - own) (x / 8 ^ (15 - target)))
 
 -- the skip over the digits below a cell of resolution `own`
 abbrev pub mark : Bool → ℕ → List ℕ → ℤ

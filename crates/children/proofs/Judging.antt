@@ -15,16 +15,15 @@ use Rattle.index.specs.Ancestor.{ancestorOf}
 use Rattle.index.specs.Refusals.{refused}
 use Rattle.index.specs.Check.{checkOf}
 use Rattle.index.proofs.Runs.{length-used}
-use Rattle.index.proofs.Cut.{ancestor-valid, ancestor-res, ancestor-fits}
 use Rattle.index.proofs.Validity.{valid-accepted}
 use Rattle.children.specs.Descendants.{pentagon, count, countOf}
 use Rattle.children.specs.Positions.{rank, seg, positionOf}
-use Rattle.children.specs.Carries.{lead, skipOf}
-use Rattle.children.specs.Cursors.{sameZ, accepted, counted, placed, legal}
+use Rattle.children.specs.Skips.{lead, skipOf}
+use Rattle.children.specs.Cursors.{accepted, counted, placed, legal}
+use Rattle.children.specs.Skips.{sameZ}
 use Rattle.children.specs.declared.children.Cursor.{Cursor}
 use Rattle.children.proofs.Start.{pos-fits}
-use Rattle.children.proofs.Exact.{complete}
-use Rattle.children.proofs.Ancestors.{ancestor-above}
+use Rattle.children.proofs.Ancestors.{own-is, owner-fits, owner-valid, owner-low, among-children}
 use Rattle.children.proofs.Carry.{lead-le}
 use Rattle.children.proofs.Walks.{skip-fits}
 
@@ -33,20 +32,9 @@ module _ (y own : ℕ) (h64 : y < 2 ^ 64) (v : Valid y) (l : own ≤ resOf y) wh
   abbrev n : ℕ
   n = ancestorOf y own
 
-  pub own-is : resOf n ≡ own
-  own-is = ancestor-res y own v l
-
-  pub owner-fits : n < 2 ^ 64
-  owner-fits = let f = ancestor-fits y own v l in omega arith
-
-  pub owner-valid : Valid n
-  owner-valid = ancestor-valid y own v l
-
-  pub below-it : (positionOf n y < countOf n (resOf y))
-  below-it = complete n (resOf y) owner-fits owner-valid (rw own-is l) (omega arith) y (ancestor-above y own h64 v l) .0
-
   position-fits : positionOf n y < 2 ^ 62
-  position-fits = pos-fits n (resOf y) owner-fits owner-valid (rw own-is l) (omega arith) (positionOf n y) below-it
+  position-fits =
+      pos-fits n (resOf y) (owner-fits y own h64 v l) (owner-valid y own h64 v l) (owner-low y own h64 v l) (omega arith) (positionOf n y) (among-children y own h64 v l .0)
 
   -- what `is_placed` reads
   module _ (number target target′ res a total p : ℕ) (f : Bool) (en : number ≡ y) (et : target ≡ target′) (et′ : target′ ≡ resOf y) (er : res ≡ own) (ea : a ≡ ancestorOf y res)
@@ -58,13 +46,13 @@ module _ (y own : ℕ) (h64 : y < 2 ^ 64) (v : Valid y) (l : own ≤ resOf y) wh
     f-is = ef ∙ ap pentagon a-is
 
     m-is : target - own ≡ resOf y - resOf n
-    m-is = omega (arith, own-is)
+    m-is = omega (arith, own-is y own h64 v l)
 
     total-is : total ≡ countOf n (resOf y)
     total-is = ec ∙ rw (f-is, m-is)
 
     p-is : p ≡ positionOf n y
-    p-is = ep ∙ rw (f-is, m-is, en, own-is)
+    p-is = ep ∙ rw (f-is, m-is, en, own-is y own h64 v l)
 
     pub p-fits : p < 2 ^ 62
     p-fits = omega (arith, p-is, position-fits)

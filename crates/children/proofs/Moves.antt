@@ -4,20 +4,24 @@ use mathlib.Core.Bool.{Bool, true, false, cond}
 use mathlib.Core.List.{List, [], _∷_, _++_}
 use Prim.Native.Nat.{ℕ, zero, suc, _+_, _-_, _*_, _/_, _^_, _≤_, _<_}
 use native.Mathlib.Nat.{div-div-eq-div-mul, suc-ne-zero}
+use native.Mathlib.Numerals.{add-one}
 use native.Mathlib.Omega.{arith}
 use lib.IntN.{ℤ, pos, negsuc}
 use lib.ListN.{length, getD, drop}
 use Rattle.index.specs.Layout.{digit, resOf, baseOf, firstOf, isPentagonal, Valid}
+use Rattle.index.specs.Ancestor.{ancestorOf}
 use Rattle.index.specs.View.{used, octal, first}
 use Rattle.plane.specs.Strings.{Digits}
 use Rattle.index.proofs.Runs.{place, place-suc, length-used}
 use Rattle.index.proofs.View.{first-used}
 use Rattle.children.specs.Descendants.{pentagon, countOf}
-use Rattle.children.specs.Positions.{below, childAt}
-use Rattle.children.specs.Carries.{lead, skipOf, octs, carried, fallen, Advanced}
+use Rattle.children.specs.Positions.{below, childAt, positionOf}
+use Rattle.children.specs.Skips.{lead, skipOf, Inner, Following}
+use Rattle.children.proofs.Carry.{octs, carried, fallen, Advanced}
 use Rattle.children.proofs.Below.{length-below, digits-below, first-zero}
-use Rattle.children.proofs.Start.{child-fits, child-res, child-used, child-sum, some-child}
-use Rattle.children.proofs.Exact.{and-zero}
+use Rattle.children.proofs.Start.{child-fits, child-valid, child-res, child-used, child-sum, some-child}
+use Rattle.children.proofs.Exact.{and-zero, position-child}
+use Rattle.children.proofs.Ancestors.{own-is, owner-fits, owner-valid, owner-low, among-children, ancestor-child}
 use Rattle.children.proofs.Carry.{mark, step, lead-none, lead-append}
 
 -- the used digits, read off the number by division
@@ -85,3 +89,67 @@ module _ (n t : ℕ) (h64 : n < 2 ^ 64) (v : Valid n) (lo : resOf n ≤ t) (hi :
     where
       lin : (r y z x x′ s : ℕ) → r + x ≡ y + x′ → s + x ≡ y → s + x′ ≡ z → r ≡ z
       lin r y z x x′ s d a b = omega arith
+
+-- in the words of `advance`'s contract
+module _ (y own : ℕ) (z : ℤ) (h64 : y < 2 ^ 64) (i : Inner y z own) where
+  abbrev n : ℕ
+  n = ancestorOf y own
+
+  abbrev p : ℕ
+  p = positionOf n y
+
+  there : childAt n (resOf y) p ≡ y
+  there = among-children y own h64 (i .valid) (i .low) .1
+
+  same-own : resOf n ≡ own
+  same-own = own-is y own h64 (i .valid) (i .low)
+
+  pub inner-asked : (target : ℕ) → target ≡ resOf y → (own ≤ target) × (target ≤ 15) × (y < 2 ^ 60) × Digits (octs (target - own) (y / 8 ^ (15 - target)))
+  inner-asked target e =
+      let a = asked n (resOf y) (owner-fits y own h64 (i .valid) (i .low)) (owner-valid y own h64 (i .valid) (i .low)) (owner-low y own h64 (i .valid) (i .low)) (omega arith) p (among-children y own h64 (i .valid) (i .low) .0) in
+      let b : (own ≤ resOf y) × (resOf y ≤ 15) × (y < 2 ^ 60) × Digits (octs (resOf y - own) (y / 8 ^ (15 - resOf y))) =
+      subst (λ (o : ℕ). (o ≤ resOf y) × (resOf y ≤ 15) × (y < 2 ^ 60) × Digits (octs (resOf y - o) (y / 8 ^ (15 - resOf y)))) same-own
+      (subst (λ (x : ℕ). (resOf n ≤ resOf y) × (resOf y ≤ 15) × (x < 2 ^ 60) × Digits (octs (resOf y - resOf n) (x / 8 ^ (15 - resOf y)))) there a) in
+      rw e b
+
+  pub follow : (target x : ℕ) (s : ℤ) → target ≡ resOf y → Advanced y z own target x s → Following y own x s
+  follow target x s e a =
+      let b : Advanced y (skipOf n y) (resOf n) (resOf y) x s =
+      subst (λ (k : ℤ). Advanced y k (resOf n) (resOf y) x s) (i .skip)
+      (subst (λ (o : ℕ). Advanced y z o (resOf y) x s) (sym same-own) (subst (λ (t : ℕ). Advanced y z own t x s) e a)) in
+      let c : Advanced (childAt n (resOf y) p) (skipOf n (childAt n (resOf y) p)) (resOf n) (resOf y) x s =
+      subst (λ (j : ℕ). Advanced j (skipOf n j) (resOf n) (resOf y) x s) (sym there) b in
+      let h = i .more in
+      let m = moved n (resOf y) (owner-fits y own h64 (i .valid) (i .low)) (owner-valid y own h64 (i .valid) (i .low)) (owner-low y own h64 (i .valid) (i .low)) (omega arith) p x s (omega arith) c in
+      record { number = m .0 ∙ ap (childAt n (resOf y)) (sym (add-one p)); skip = m .1 ∙ ap (skipOf n) (sym (m .0)) }
+
+-- the child at p and the one after it
+module _ (n t : ℕ) (h64 : n < 2 ^ 64) (v : Valid n) (lo : resOf n ≤ t) (hi : t ≤ 15) (p : ℕ) (h : suc p < countOf n t) where
+  abbrev y : ℕ
+  y = childAt n t p
+
+  owner : ancestorOf y (resOf n) ≡ n
+  owner = ancestor-child n t h64 v lo hi p (omega arith)
+
+  fine : resOf y ≡ t
+  fine = child-res n t h64 v lo hi p (omega arith)
+
+  spot : positionOf (ancestorOf y (resOf n)) y ≡ p
+  spot = ap (λ (m : ℕ). positionOf m y) owner ∙ position-child n t h64 v lo hi p (omega arith)
+
+  pub inner-child : Inner y (skipOf n y) (resOf n)
+  inner-child =
+      record {
+        valid = child-valid n t h64 v lo hi p (omega arith);
+        low = rw fine lo;
+        more = let e : countOf (ancestorOf y (resOf n)) (resOf y) ≡ countOf n t = ap (λ (m : ℕ). countOf m (resOf y)) owner ∙ ap (countOf n) fine in omega (arith, spot);
+        skip = ap (λ (m : ℕ). skipOf m y) (sym owner);
+      }
+
+  pub following-child : (x : ℕ) (s : ℤ) → Following y (resOf n) x s → (x ≡ childAt n t (suc p)) × (s ≡ skipOf n (childAt n t (suc p)))
+  following-child x s f =
+      let e : x ≡ childAt n t (suc p) =
+      f .number ∙ ap (λ (m : ℕ). childAt m (resOf y) (positionOf (ancestorOf y (resOf n)) y + 1)) owner
+      ∙ ap (λ (k : ℕ). childAt n k (positionOf (ancestorOf y (resOf n)) y + 1)) fine
+      ∙ ap (λ (j : ℕ). childAt n t (j + 1)) spot ∙ ap (childAt n t) (add-one p) in
+      (e, f .skip ∙ ap (λ (m : ℕ). skipOf m x) owner ∙ ap (skipOf n) e)

@@ -13,7 +13,7 @@ use lib.ListN.{length}
 use borrow.Author.Tests.{lt-ltb, le-ltb, eqb-true}
 use Rattle.index.specs.View.{octal}
 use Rattle.plane.specs.Strings.{Digits}
-use Rattle.children.specs.Carries.{skipsAt, octs, carried, fallen}
+use Rattle.children.proofs.Carry.{skipsAt, octs, carried, fallen}
 
 pub length-octs : (m x : ℕ) → length (octs m x) ≡ m
 unfolding octs

@@ -1,7 +1,7 @@
 -- From a fresh cursor the k-th call gives element k of the listing, then Done; and the cursors that are accepted are exactly those that a
 -- fresh cursor and some number of calls make. Assumes nothing.
 use mathlib.Core.Path.{_≡_, refl, sym, ap, _∙_, subst}
-use mathlib.Core.Bool.{Bool, true, cond, _&&_}
+use mathlib.Core.Bool.{Bool, true, false, cond, _&&_}
 use mathlib.Core.Logic.{⊎-elim}
 use Prim.Native.Nat.{ℕ, zero, suc, _+_, _-_, _^_, _≤_, _<_}
 use native.Mathlib.Nat.{eq-zero-or-pos}
@@ -17,16 +17,17 @@ use Rattle.index.specs.Ancestor.{ancestorOf}
 use Rattle.index.proofs.Validity.{valid-accepted}
 use Rattle.children.specs.Descendants.{countOf}
 use Rattle.children.specs.Positions.{childAt, positionOf, listing}
-use Rattle.children.specs.Carries.{skipOf}
-use Rattle.children.specs.Cursors.{cursorAt, ownerOf, accepted, sameZ, legal, nextOf, handed, after, Made}
+use Rattle.children.specs.Skips.{skipOf}
+use Rattle.children.specs.Cursors.{cursorAt, ownerOf, accepted, legal, nextOf, handed, after, Made}
+use Rattle.children.specs.Skips.{sameZ}
 use Rattle.children.specs.declared.children.Cursor.{Cursor}
-use Rattle.children.specs.declared.children.Given.the-variants.{Child, Done}
+use Rattle.children.specs.declared.children.Given.the-variants.{Child, Done, Refused}
 use Rattle.children.proofs.Start.{some-child, child-valid, child-res}
 use Rattle.children.proofs.Exact.{position-child}
 use Rattle.children.proofs.Whole.{listing-at}
-use Rattle.children.proofs.Walks.{owner}
+use Rattle.children.proofs.Ancestors.{ancestor-child}
 use Rattle.children.proofs.Stands.{same-cursor, cursor-at, cursor-end}
-use Rattle.children.proofs.Calls.{Spot, legal-spot, done-call, child-given}
+use Rattle.children.proofs.Calls.{Spot, legal-spot, done-call, child-given, refused-call}
 
 same-refl : (z : ℤ) → sameZ z z ≡ true
 same-refl (pos a) = eq-eqb a a refl
@@ -44,7 +45,7 @@ module _ (c : Cursor) (n p : ℕ) (s : Spot c n p) where
   pub spot-owner : ownerOf c ≡ n
   spot-owner =
       ap (λ (y : ℕ). ancestorOf y (c .own)) (s .here) ∙ ap (ancestorOf (childAt n (c .target) p)) (sym (s .own))
-      ∙ owner n (c .target) _ (s .fits) (s .valid) (s .low) (s .high) refl p (s .under)
+      ∙ ancestor-child n (c .target) (s .fits) (s .valid) (s .low) (s .high) p (s .under)
 
   pub spot-position : positionOf (ownerOf c) (c .number) ≡ p
   spot-position =
@@ -147,3 +148,19 @@ legal-made c h e =
         let q : countOf n t - c .left ≡ p = omega arith in
         same-cursor _ _ (sym (s .own)) refl (s .here) (s .skip ∙ ap (skipOf n) (s .here)) (omega arith) ∙ sym (cursor-at n t p (s .under)) ∙ ap (cursorAt n t) (sym q))
         (eq-zero-or-pos (c .left))
+
+-- any other cursor is refused, and none of these
+pub unmade-refused : (c : Cursor) → c .number < 2 ^ 64 → (Made c → ⊥) → nextOf c ≡ Refused c
+unmade-refused c h g = go (legal c) refl
+  where
+    go : (b : Bool) → legal c ≡ b → nextOf c ≡ Refused c
+    go true e = absurd (g (legal-made c h e))
+    go false e = sym (refused-call c e)
+
+pub made-given : (c d : Cursor) → Made c → nextOf c ≡ Refused d → ⊥
+unfolding nextOf
+made-given c d m e = go (eqb (c .left) 0) (rw (made-legal c m) at e)
+  where
+    go : (b : Bool) → cond b (Done c) (Child (c .number) (cursorAt (ownerOf c) (c .target) (positionOf (ownerOf c) (c .number) + 1))) ≡ Refused d → ⊥
+    go true q = let z : _≡_ {A = ℕ} 0 1 = cc in omega arith
+    go false q = let z : _≡_ {A = ℕ} 0 1 = cc in omega arith

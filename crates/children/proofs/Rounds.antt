@@ -12,7 +12,7 @@ use Rattle.index.specs.Layout.{digit}
 use Rattle.index.specs.View.{octal}
 use Rattle.plane.specs.Strings.{Digits}
 use Rattle.index.proofs.Runs.{place, eights-pos}
-use Rattle.children.specs.Carries.{skipsAt, octs, carried, fallen, Advanced}
+use Rattle.children.proofs.Carry.{skipsAt, octs, carried, fallen, Advanced}
 use Rattle.children.proofs.Odometer as odo
 
 pub record Kept (x : ℕ) (z : ℤ) (own target a r : ℕ) : Type 0 where

@@ -6,7 +6,7 @@ use native.Mathlib.Omega.{arith}
 use Rattle.index.specs.Layout.{resOf}
 use Rattle.children.specs.Descendants.{countOf}
 use Rattle.children.specs.Positions.{childAt}
-use Rattle.children.specs.Carries.{skipOf}
+use Rattle.children.specs.Skips.{skipOf}
 use Rattle.children.specs.Cursors.{cursorAt}
 use Rattle.children.specs.declared.children.Cursor.{Cursor}
 

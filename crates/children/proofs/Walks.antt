@@ -2,7 +2,7 @@
 use mathlib.Core.Path.{_≡_, refl, sym, ap, _∙_, subst}
 use mathlib.Core.Bool.{Bool, true, false, cond}
 use mathlib.Core.List.{List, _++_}
-use Prim.Native.Nat.{ℕ, suc, _+_, _-_, _/_, _^_, _≤_, _<_}
+use Prim.Native.Nat.{ℕ, suc, _+_, _-_, _^_, _≤_, _<_}
 use native.Mathlib.Numerals.{add-one}
 use native.Mathlib.Omega.{arith}
 use lib.IntN.{ℤ, pos, negsuc}
@@ -13,16 +13,12 @@ use mir.Val.{SFits, toZ, ofZ}
 use mir.Facts.{toZ-ofZ}
 use Rattle.index.specs.Layout.{resOf, Valid}
 use Rattle.index.specs.View.{used}
-use Rattle.plane.specs.Strings.{Digits}
-use Rattle.index.specs.Ancestor.{ancestorOf}
 use Rattle.index.proofs.Runs.{length-used}
 use Rattle.children.specs.Descendants.{pentagon, countOf}
 use Rattle.children.specs.Positions.{childAt, tab, listing}
-use Rattle.children.specs.Carries.{lead, skipOf, octs, Advanced}
+use Rattle.children.specs.Skips.{lead, skipOf, Inner, Following}
 use Rattle.children.proofs.Tab.{tab-none, tab-more}
-use Rattle.children.proofs.Start.{some-child}
-use Rattle.children.proofs.Exact.{sound}
-use Rattle.children.proofs.Ancestors.{ancestor-only}
+use Rattle.children.proofs.Start.{some-child, child-res}
 use Rattle.children.proofs.Carry.{lead-le}
 use Rattle.children.proofs.Moves as moves
 
@@ -42,9 +38,6 @@ pub record Walked (n t last : ℕ) (b₀ b : List ℕ) (number : ℕ) (z : ℤ) 
   pub skip : z ≡ skipOf n (childAt n t i)
 
 module _ (n t last : ℕ) (h64 : n < 2 ^ 64) (v : Valid n) (lo : resOf n ≤ t) (hi : t ≤ 15) (el : last ≡ countOf n t - 1) where
-  pub owner : (p : ℕ) → p < countOf n t → ancestorOf (childAt n t p) (resOf n) ≡ n
-  owner p hp = sym (ancestor-only n (childAt n t p) t h64 v (sound n t h64 v lo hi p hp))
-
   one : 1 ≤ countOf n t
   one = some-child n t h64 v lo hi
 
@@ -54,14 +47,18 @@ module _ (n t last : ℕ) (h64 : n < 2 ^ 64) (v : Valid n) (lo : resOf n ≤ t) 
       record { low = omega arith; long = refl; list = tab-none (childAt n t) b; here = e; skip = toZ-ofZ (subst (SFits w32) (sym q) (skip-fits n (childAt n t 0))) ∙ q }
 
   module _ (b₀ b : List ℕ) (number : ℕ) (z : ℤ) (i : ℕ) (w : Walked n t last b₀ b number z i) where
-    pub asked : i < last → (own target : ℕ) → own ≡ resOf n → target ≡ t → (own ≤ target) × (target ≤ 15) × (number < 2 ^ 60) × Digits (octs (target - own) (number / 8 ^ (15 - target)))
-    asked h own target eo et = rw (eo, et, w .here) (moves.asked n t h64 v lo hi i (omega arith))
+    pub asked : i < last → (own target : ℕ) → own ≡ resOf n → target ≡ t → Inner number z own × (target ≡ resOf number)
+    asked h own target eo et =
+        let l : suc i < countOf n t = omega arith in
+        let c : Inner (childAt n t i) (skipOf n (childAt n t i)) (resOf n) = moves.inner-child n t h64 v lo hi i l in
+        let d : Inner number (skipOf n (childAt n t i)) own = subst (λ (o : ℕ). Inner number (skipOf n (childAt n t i)) o) (sym eo) (subst (λ (y : ℕ). Inner y (skipOf n (childAt n t i)) (resOf n)) (sym (w .here)) c) in
+        (subst (λ (k : ℤ). Inner number k own) (sym (w .skip)) d, et ∙ sym (child-res n t h64 v lo hi i (omega arith)) ∙ ap resOf (sym (w .here)))
 
     module _ (room : countOf n t ≤ length b₀) where
-      pub again : i < last → (own target y : ℕ) (s : ℤ) → own ≡ resOf n → target ≡ t → Advanced number z own target y s → Walked n t last b₀ (set b i number) y (toZ w32 (ofZ w32 s)) (i + 1)
-      again h own target y s eo et a =
-          let a′ : Advanced (childAt n t i) (skipOf n (childAt n t i)) (resOf n) t y s = rw (eo, et, w .here, w .skip) at a in
-          let m = moves.moved n t h64 v lo hi i y s (let o = one in omega arith) a′ in
+      pub again : i < last → (own y : ℕ) (s : ℤ) → own ≡ resOf n → Following number own y s → Walked n t last b₀ (set b i number) y (toZ w32 (ofZ w32 s)) (i + 1)
+      again h own y s eo a =
+          let f : Following (childAt n t i) (resOf n) y s = subst (λ (k : ℕ). Following k (resOf n) y s) (w .here) (subst (λ (o : ℕ). Following number o y s) eo a) in
+          let m = moves.following-child n t h64 v lo hi i (let o = one in omega arith) y s f in
           record {
             low = omega arith;
             long = simp length-set (w .long);

@@ -103,6 +103,10 @@ only-listing n t k l a b = ext-getD 0 k l long same
         level : (r p : ℕ) → r < length k → p < length k → getD k r 0 ≡ getD k p 0 → r ≡ p
         level r p hr hp e = elim (decLe r p) [ yes w ↦ ⊎-elim (λ (s : r ≡ p). s) (λ g. absurd (omega (arith, a .ascending r p g hp))) (eq-or-lt-of-le w) | no w ↦ absurd (w (absurd (omega (arith, a .ascending p r (omega arith) hr)))) ]
 
+-- a listing is as long as the count
+pub count-listing : (n t : ℕ) (l : List ℕ) → n < 2 ^ 64 → Valid n → resOf n ≤ t → t ≤ 15 → Listing n t l → length l ≡ countOf n t
+count-listing n t l h v lo hi a = ap length (only-listing n t l (listing n t) a (whole n t h v lo hi)) ∙ length-listing n t
+
 -- at n = 0 it is the cell
 pub listing-self : (n : ℕ) → n < 2 ^ 64 → Valid n → listing n (resOf n) ≡ n ∷ []
 listing-self n h v = only-listing n (resOf n) (listing n (resOf n)) (n ∷ []) (whole n (resOf n) h v (omega arith) (omega arith)) self

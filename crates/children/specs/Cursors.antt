@@ -3,14 +3,14 @@ use mathlib.Core.Path.{_≡_}
 use mathlib.Core.Bool.{Bool, true, false, cond, _&&_}
 use Prim.Native.Nat.{ℕ, zero, suc, _+_, _-_, _^_, _≤_, _<_, min}
 use lib.Dec.{eqb, leb}
-use lib.IntN.{ℤ, pos, negsuc}
+use lib.IntN.{ℤ}
 use Rattle.index.specs.Layout.{resOf, Valid}
 use Rattle.index.specs.Refusals.{Outcome, answered, refused}
 use Rattle.index.specs.Check.{checkOf}
 use Rattle.index.specs.Ancestor.{ancestorOf}
 use Rattle.children.specs.Descendants.{countOf}
 use Rattle.children.specs.Positions.{childAt, positionOf}
-use Rattle.children.specs.Carries.{skipOf}
+use Rattle.children.specs.Skips.{skipOf, sameZ}
 use Rattle.children.specs.declared.children.Cursor.{Cursor}
 use Rattle.children.specs.declared.children.Given.{Given}
 use Rattle.children.specs.declared.children.Given.the-variants.{Child, Done, Refused}
@@ -28,12 +28,6 @@ ownerOf c = ancestorOf (c .number) (c .own)
 abbrev pub accepted : Outcome ℕ → Bool
 accepted (answered n) = true
 accepted (refused k) = false
-
-abbrev pub sameZ : ℤ → ℤ → Bool
-sameZ (pos a) (pos b) = eqb a b
-sameZ (pos a) (negsuc b) = false
-sameZ (negsuc a) (pos b) = false
-sameZ (negsuc a) (negsuc b) = eqb a b
 
 -- what is left goes with the position of y below n: the last child stays when none is left
 abbrev pub counted : ℕ → ℕ → ℕ → Bool

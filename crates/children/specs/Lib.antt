@@ -1,4 +1,4 @@
 pub mod Descendants
 pub mod Positions
-pub mod Carries
+pub mod Skips
 pub mod Cursors

@@ -2,15 +2,14 @@
 ghost use mathlib.Core.Path.{_≡_};
 ghost use mathlib.Core.Bool.{cond, _&&_};
 ghost use mathlib.Core.List.{_++_};
-ghost use Prim.Native.Nat.{_+_, _-_, _*_, _/_, _^_, _≤_, _<_};
+ghost use Prim.Native.Nat.{_+_, _-_, _*_, _≤_, _<_};
 ghost use lib.Dec.{eqb};
 ghost use lib.ListN.{length, drop};
 ghost use lib.IntN.{pos, negsuc, predℤ, natAbs};
 ghost use Rattle.index.specs.Layout.{Valid, resOf};
-ghost use Rattle.plane.specs.Strings.{Digits};
 ghost use Rattle.children.specs.Descendants.{countOf};
 ghost use Rattle.children.specs.Positions.{childAt, listing};
-ghost use Rattle.children.specs.Carries.{skipsAt, octs, Advanced};
+ghost use Rattle.children.specs.Skips.{sameZ, Inner, Following};
 ghost use Rattle.children.specs.Cursors.{cursorAt, nextOf};
 use crate::count::children_count;
 use crate::legal::is_legal;
@@ -49,7 +48,7 @@ struct Scratch {
 
 fn is_skipped(skip: i32, r: u64, direction: u64) -> bool
     requires { ⌜ r ≤ 15 ⌝ }
-    ensures { λ t. ⌜ t ≡ (eqb direction 1 && skipsAt skip r) ⌝ }
+    ensures { λ t. ⌜ t ≡ (eqb direction 1 && sameZ skip (pos r)) ⌝ }
 {
     if direction == 1 {
         return skip == (r as i32);
@@ -64,9 +63,10 @@ fn fall(skip: i32) -> i32
     skip - 1
 }
 
+// From a child of a cell of resolution `own` to the next.
 fn advance(number: u64, skip: i32, own: u64, target: u64) -> Scratch
-    requires { ⌜ (own ≤ target) × (target ≤ 15) × (number < 2 ^ 60) × Digits (octs (target - own) (number / 8 ^ (15 - target))) ⌝ }
-    ensures { λ s. ⌜ Advanced number skip own target (s .number) (s .skip) ⌝ }
+    requires { ⌜ Inner number skip own × (target ≡ resOf number) ⌝ }
+    ensures { λ s. ⌜ Following number own (s .number) (s .skip) ⌝ }
 {
     let mut bits = number;
     let mut r = target;

@@ -8,7 +8,9 @@ use mir.Syntax.{w32}
 use mir.Val.{toZ, ofZ}
 use mir.Facts.{toZ-ofZ}
 use Rattle.index.specs.Layout.{digit}
-use Rattle.children.specs.Carries.{Advanced}
+use Rattle.children.proofs.Carry.{Advanced}
+use Rattle.children.specs.Skips.{Following}
+use Rattle.children.proofs.Moves.{inner-asked, follow}
 use Rattle.children.proofs.Rounds as rounds
 use Rattle.children.proofs.Rounds.{Kept}
 use Rattle.children.proofs.children.advance.Statement.{statement}
@@ -21,7 +23,9 @@ abbrev μ-loop : tie.MeasureT-loop
 μ-loop number skip own target bits₀ r₀ bits r = r
 
 loop-holds : tie.Need-loop-holds Inv-loop μ-loop
-loop-holds c = rounds.begin _ _ _ _ (c .pre .0) (c .pre .1) (c .pre .2) (c .pre .3)
+loop-holds c =
+    let a = inner-asked (c .args .number) (c .args .own) (c .args .skip) (omega arith) (c .pre .0) (c .args .target) (c .pre .1) in
+    rounds.begin _ _ _ _ (a .0) (a .1) (a .2) (a .3)
 
 resolution-requires : tie.Need-resolution-requires Inv-loop μ-loop
 resolution-requires c κs = search needs
@@ -52,9 +56,11 @@ is-skipped-requires c κs = search needs
 seen : (c : tie.After-direction Inv-loop μ-loop) → let l = c .before .before .before .before .before .loop in c .direction .result ≡ digit (l .bits + c .before .before .place .result) (l .r)
 seen c = c .direction .ensures ∙ ap (digit (c .before .before .before .before .before .loop .bits + c .before .before .place .result)) (c .before .resolution2 .ensures)
 
--- the skip is read back from its bits
-back : (c : tie.Start Inv-loop μ-loop) (y : ℕ) (s : ℤ) → let a = c .args in Advanced (a .number) (toZ w32 (ofZ w32 (a .skip))) (a .own) (a .target) y s → Advanced (a .number) (a .skip) (a .own) (a .target) y s
-back c y s h = let a = c .args in subst (λ (z : ℤ). Advanced (a .number) z (a .own) (a .target) y s) (toZ-ofZ (c .fits .skip)) h
+-- the skip is read back from its bits, and what the rounds made is the next child
+back : (c : tie.Start Inv-loop μ-loop) (y : ℕ) (s : ℤ) → let a = c .args in Advanced (a .number) (toZ w32 (ofZ w32 (a .skip))) (a .own) (a .target) y s → Following (a .number) (a .own) y s
+back c y s h =
+    let a = c .args in
+    follow (a .number) (a .own) (a .skip) (omega arith) (c .pre .0) (a .target) y s (c .pre .1) (subst (λ (z : ℤ). Advanced (a .number) z (a .own) (a .target) y s) (toZ-ofZ (c .fits .skip)) h)
 
 add-t12 : tie.Need-add-t12 Inv-loop μ-loop
 add-t12 c = let p = c .before .before .before .before in let i = p .before .before .before .loop .inv .fits in omega (arith, fits p)

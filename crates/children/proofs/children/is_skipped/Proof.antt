@@ -8,7 +8,7 @@ use lib.Dec.{eqb}
 use lib.IntN.{ℤ, pos, negsuc}
 use mir.Syntax.{w32}
 use mir.Val.{SFits, ofZ}
-use Rattle.children.specs.Carries.{skipsAt}
+use Rattle.children.proofs.Carry.{skipsAt}
 use Rattle.children.proofs.children.is_skipped.Statement.{statement}
 use Rattle.children.proofs.children.is_skipped.Tie as tie
 

@@ -15,6 +15,7 @@ use Rattle.index.specs.Ancestor.{ancestorOf}
 use Rattle.children.specs.Descendants.{pentagon, countOf}
 use Rattle.children.specs.Positions.{childAt}
 use Rattle.children.proofs.Start.{some-child}
+use Rattle.children.proofs.Ancestors.{ancestor-child}
 use Rattle.children.proofs.Walks as walks
 use Rattle.children.proofs.Walks.{Walked}
 use Rattle.children.proofs.children.list.Statement.{statement}
@@ -66,7 +67,7 @@ owner-is k =
     let t : ℕ = s .args .t .0 in
     ap (λ (y : ℕ). ancestorOf y (k .before .before .before .before .before .resolution-number .result)) (k .before .before .get-starting-state .ensures)
     ∙ ap (ancestorOf (childAt n t 0)) (own-is k)
-    ∙ walks.owner n t _ (omega arith) (s .pre .0) (s .pre .1) (s .pre .2) (last-is k) 0 (some-child n t (omega arith) (s .pre .0) (s .pre .1) (s .pre .2))
+    ∙ ancestor-child n t (omega arith) (s .pre .0) (s .pre .1) (s .pre .2) 0 (some-child n t (omega arith) (s .pre .0) (s .pre .1) (s .pre .2))
 
 module _ (k : tie.After-skip-count Inv-loop μ-loop) (b₀ b : List ℕ) (number : ℕ) (z : ℤ) (i : ℕ) where
   abbrev n : ℕ
@@ -130,7 +131,7 @@ loop-again c =
     let k = l .before in
     let s = k .before .before .before .before .before .before .before .before in
     from k _ _ _ _ _
-    (walks.again _ _ _ (omega arith) (s .pre .0) (s .pre .1) (s .pre .2) (last-is k) _ _ _ _ _ (to k _ _ _ _ _ (l .loop .inv)) (room k) (c .before .before .loop-test .taken) _ _ _ _ (own-is k) (k .before .before .before .before .resolution-number2 .ensures) (c .before .advance .ensures))
+    (walks.again _ _ _ (omega arith) (s .pre .0) (s .pre .1) (s .pre .2) (last-is k) _ _ _ _ _ (to k _ _ _ _ _ (l .loop .inv)) (room k) (c .before .before .loop-test .taken) _ _ _ (own-is k) (c .before .advance .ensures))
 
 mul-buf-2 : tie.Need-mul-buf-2 Inv-loop μ-loop
 mul-buf-2 c = let l = in-count (c .before .before) in omega arith

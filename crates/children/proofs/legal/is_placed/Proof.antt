@@ -4,6 +4,7 @@ use mathlib.Core.Path.{sym, ap, _∙_, subst}
 use native.Mathlib.Omega.{arith}
 use Rattle.index.specs.Layout.{Valid}
 use Rattle.index.specs.Ancestor.{ancestorOf}
+use Rattle.children.proofs.Ancestors.{owner-valid}
 use Rattle.children.proofs.Judging as judging
 use Rattle.children.proofs.legal.is_placed.Statement.{statement}
 use Rattle.children.proofs.legal.is_placed.Tie as tie
@@ -26,7 +27,7 @@ ancestor-requires c κs = search needs
 is-pentagon-requires : tie.Need-is-pentagon-requires
 is-pentagon-requires c κs =
     let s = c .before .before .before .before .before in
-    subst Valid (sym (c .ancestor .ensures ∙ ap (ancestorOf (s .args .y .0)) (c .before .resolution .ensures))) (judging.owner-valid (s .args .y .0) (s .args .own) (omega arith) (s .pre .0) (s .pre .1))
+    subst Valid (sym (c .ancestor .ensures ∙ ap (ancestorOf (s .args .y .0)) (c .before .resolution .ensures))) (owner-valid (s .args .y .0) (s .args .own) (omega arith) (s .pre .0) (s .pre .1))
 
 sub-m : tie.Need-sub-m
 sub-m c = search needs

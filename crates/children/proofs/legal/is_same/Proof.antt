@@ -8,7 +8,7 @@ use lib.Dec.{eqb}
 use lib.IntN.{ℤ, pos, negsuc}
 use mir.Syntax.{w32}
 use mir.Val.{SFits, ofZ}
-use Rattle.children.specs.Cursors.{sameZ}
+use Rattle.children.specs.Skips.{sameZ}
 use Rattle.children.proofs.legal.is_same.Statement.{statement}
 use Rattle.children.proofs.legal.is_same.Tie as tie
 

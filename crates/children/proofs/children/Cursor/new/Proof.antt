@@ -10,7 +10,7 @@ use mir.Val.{SFits}
 use mir.Facts.{toZ-ofZ}
 use Rattle.children.specs.Descendants.{pentagon}
 use Rattle.children.specs.Positions.{childAt}
-use Rattle.children.specs.Carries.{skipOf}
+use Rattle.children.specs.Skips.{skipOf}
 use Rattle.children.proofs.Start.{some-child}
 use Rattle.children.proofs.Moves.{first-skip}
 use Rattle.children.proofs.Walks.{skip-fits}

@@ -35,7 +35,7 @@ cast-advance-2 : tie.Need-cast-advance-2
 cast-advance-2 c = search needs
 
 advance-requires : tie.Need-advance-requires
-advance-requires c κs = calls.asked (c .before .before .before .before .before .before .before .args .self) _ _ (spot (c .before .before .before .before .before))
+advance-requires c κs = calls.asked (c .before .before .before .before .before .before .before .args .self) _ _ (spot (c .before .before .before .before .before)) (c .before .before .before .before .if2 .left) (c .before .before .before .if3 .left)
 
 sub-t8 : tie.Need-sub-t8
 sub-t8 c = search needs
