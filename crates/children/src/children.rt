@@ -136,22 +136,22 @@ pub enum Given {
     Refused(Cursor),
 }
 
-impl Cursor {
-    pub fn new(c: Cell, t: Resolution) -> Cursor
-        requires { ⌜ Valid (c .0) × (resOf (c .0) ≤ t .0) × (t .0 ≤ 15) ⌝ }
-        ensures { λ r. ⌜ r ≡ cursorAt (c .0) (t .0) 0 ⌝ }
-    {
-        let own = resolution_number(resolution_of(c));
-        let target = resolution_number(t);
-        Cursor {
-            own: own as u32,
-            target: target as u32,
-            number: get_starting_state(c, t),
-            skip: skip_count(is_pentagon(c), target),
-            left: children_count(c, t),
-        }
+pub fn fresh(c: Cell, t: Resolution) -> Cursor
+    requires { ⌜ Valid (c .0) × (resOf (c .0) ≤ t .0) × (t .0 ≤ 15) ⌝ }
+    ensures { λ r. ⌜ r ≡ cursorAt (c .0) (t .0) 0 ⌝ }
+{
+    let own = resolution_number(resolution_of(c));
+    let target = resolution_number(t);
+    Cursor {
+        own: own as u32,
+        target: target as u32,
+        number: get_starting_state(c, t),
+        skip: skip_count(is_pentagon(c), target),
+        left: children_count(c, t),
     }
+}
 
+impl Cursor {
     pub fn next(self) -> Given
         ensures { λ r. ⌜ r ≡ nextOf self ⌝ }
     {

@@ -6,6 +6,7 @@ mod rank;
 
 pub use children::Cursor;
 pub use children::Given;
+pub use children::fresh;
 pub use children::list;
 pub use count::children_count;
 pub use rank::Found;

@@ -62,7 +62,7 @@ pub fn cursor(raw: u64, target: u32) -> Started
     let Wanted::At(cell, t) = a else {
         return Started::Refused(a.refusal());
     };
-    Started::At(Cursor::new(cell, t))
+    Started::At(children::fresh(cell, t))
 }
 
 pub fn next(cursor: Cursor) -> Given

@@ -33,14 +33,14 @@ returns c =
     let a = c .before .before .before .finer in
     refuse-finer (s .raw) (s .target) [] (cursorAt (s .raw) (s .target) 0) (a .result) _ (c .before .before .match .keys2) (a .ensures) (c .refusal .ensures)
 
-new-requires : tie.Need-new-requires
-new-requires c κs = asked _ _ _ _ (got c)
+fresh-requires : tie.Need-fresh-requires
+fresh-requires c κs = asked _ _ _ _ (got c)
 
 returns-2 : tie.Need-returns-2
 returns-2 c =
     let s = c .before .before .before .before .before .args in
     let r = got (c .before) in
-    ap answered (c .new .ensures ∙ ap₂ (λ (n t : ℕ). cursorAt n t 0) (r .cell) (r .target)) ∙ sym (past-finer (s .raw) (s .target) [] _ (r .clear) ∙ none-answered _)
+    ap answered (c .fresh .ensures ∙ ap₂ (λ (n t : ℕ). cursorAt n t 0) (r .cell) (r .target)) ∙ sym (past-finer (s .raw) (s .target) [] _ (r .clear) ∙ none-answered _)
 
 pub cursor-spec : {M : Type 1} → statement M
 cursor-spec =
@@ -51,5 +51,5 @@ cursor-spec =
     enum-told
     refusal-requires
     returns
-    new-requires
+    fresh-requires
     returns-2)

@@ -1,4 +1,4 @@
--- `children::children::Cursor::new` meets its contract. Assumes nothing.
+-- `children::children::fresh` meets its contract. Assumes nothing.
 use borrow.Author.Needs.{needs}
 use mathlib.Core.Path.{_≡_, sym, ap, _∙_, subst}
 use mathlib.Core.Bool.{Bool, cond}
@@ -15,8 +15,8 @@ use Rattle.children.proofs.Start.{some-child}
 use Rattle.children.proofs.Moves.{first-skip}
 use Rattle.children.proofs.Walks.{skip-fits}
 use Rattle.children.proofs.Stands.{same-cursor, cursor-at}
-use Rattle.children.proofs.children.Cursor.new.Statement.{statement}
-use Rattle.children.proofs.children.Cursor.new.Tie as tie
+use Rattle.children.proofs.children.fresh.Statement.{statement}
+use Rattle.children.proofs.children.fresh.Tie as tie
 
 resolution-of-requires : tie.Need-resolution-of-requires
 resolution-of-requires c κs = search needs
@@ -59,8 +59,8 @@ returns c =
     (toZ-ofZ (subst (SFits w32) (sym q) (skip-fits n (childAt n t 0))) ∙ q) (omega (arith, c .children-count .ensures))
     ∙ sym (cursor-at n t 0 (some-child n t (omega arith) (s .pre .0) (s .pre .1) (s .pre .2)))
 
-pub new-spec : {M : Type 1} → statement M
-new-spec =
+pub fresh-spec : {M : Type 1} → statement M
+fresh-spec =
     tie.close
     (tie.spec
     resolution-of-requires
