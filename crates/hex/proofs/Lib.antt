@@ -1,2 +1,3 @@
+pub mod Judges
 pub mod Rows
 pub mod Unique

@@ -3,9 +3,10 @@ use mathlib.Core.Path.{_≡_, refl, sym, _∙_}
 use Prim.Native.Nat.{ℕ}
 use Rattle.index.specs.Refusals.{Outcome, answered, refused}
 use Rattle.index.proofs.Rules.{never, refused-inj}
-use Rattle.hex.specs.Answers.{validOf, toldChecked}
-use Rattle.hex.specs.declared.Checked.{Checked}
-use Rattle.hex.specs.declared.Checked.the-variants.{Valid, Refused}
+use Rattle.hex.specs.Answers.{toldChecked}
+use Rattle.hex.specs.Cells.{validOf}
+use Rattle.hex.specs.declared.answers.Checked.{Checked}
+use Rattle.hex.specs.declared.answers.Checked.the-variants.{Valid, Refused}
 
 told-same : (r s : Checked) → toldChecked r ≡ toldChecked s → r ≡ s
 told-same Valid Valid e = refl

@@ -3,7 +3,7 @@ use mathlib.Core.Path.{_≡_}
 use mathlib.Core.List.{List, [], _∷_}
 use Prim.Native.Nat.{ℕ}
 use Rattle.index.specs.Refusals.{Outcome, answered, refused}
-use Rattle.hex.specs.Answers.{validOf}
+use Rattle.hex.specs.Cells.{validOf}
 
 -- a request's outcome, and what the document says it is
 infix 20 _gives_

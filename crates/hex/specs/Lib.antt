@@ -1,2 +1,4 @@
 pub mod Answers
+pub mod Cells
+pub mod Points
 pub mod Examples

@@ -1,32 +1,33 @@
 // The library's face: the public entries. They take any numbers, and have no `requires`.
-ghost use mathlib.Core.Path.{_≡_};
-ghost use Rattle.index.specs.Refusals.{numberOf};
-ghost use Rattle.hex.specs.Answers.{validOf, toldChecked};
+mod answers;
+mod cells;
+mod judge;
+mod points;
+
+pub use answers::Checked;
+pub use answers::Number;
+pub use answers::Pair;
+pub use answers::Point;
+pub use answers::Truth;
+pub use cells::check;
 pub use index::Refusal;
-
-pub enum Checked {
-    Valid,
-    Refused(Refusal),
-}
-
-impl Checked {
-    // The refusal's number, or 0.
-    pub fn refusal(self) -> u16
-        ensures { λ r. ⌜ r ≡ numberOf (toldChecked self) ⌝ }
-    {
-        match self {
-            Checked::Valid => 0,
-            Checked::Refused(x) => x.number(),
-        }
-    }
-}
-
-pub fn check(raw: u64) -> Checked
-    ensures { λ r. ⌜ toldChecked r ≡ validOf raw ⌝ }
-{
-    let a = index::check(raw);
-    let index::Checked::Valid(_cell) = a else {
-        return Checked::Refused(a.refusal());
-    };
-    Checked::Valid
-}
+pub use plane::ijk::IJ;
+pub use plane::ijk::IJK;
+pub use points::direction_of;
+pub use points::direction_turn_ccw;
+pub use points::direction_turn_cw;
+pub use points::distance;
+pub use points::down3_ccw;
+pub use points::down3_cw;
+pub use points::down7_ccw;
+pub use points::down7_cw;
+pub use points::from_ij;
+pub use points::neighbour;
+pub use points::normalise;
+pub use points::point_turn_ccw;
+pub use points::point_turn_cw;
+pub use points::same_point;
+pub use points::to_ij;
+pub use points::unit;
+pub use points::up7_ccw;
+pub use points::up7_cw;

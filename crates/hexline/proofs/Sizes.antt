@@ -1,5 +1,5 @@
 -- The size of a 32-bit number, below zero by way of -1 - z, which fits 32 bits.
-use Prim.Native.Nat.{ℕ, suc, _+_, _-_, _^_, _<_}
+use Prim.Native.Nat.{suc, _+_, _-_, _^_, _<_}
 use mathlib.Core.Path.{_≡_}
 use mathlib.Core.Bool.{true, false, true≢false}
 use native.Mathlib.Omega.{arith}

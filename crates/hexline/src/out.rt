@@ -35,6 +35,7 @@ pub fn flush(buf: &Buffer, o: Out) -> Out
     Out { at: 0, open: false }
 }
 
+// A part of a slice, since the borrow checker covers none of an array behind a reference.
 fn written(bytes: &[u8], n: usize) -> bool
     requires { ⌜ n ≤ length (now bytes) ⌝ }
 {

@@ -10,7 +10,7 @@ use Rattle.plane.specs.Points.{lesser, greater, least, largest, normal, 
 use Rattle.plane.specs.declared.ijk.IJK.{IJK}
 use Rattle.plane.specs.declared.ijk.IJ.{IJ}
 use Rattle.plane.proofs.Whole.{whole, diffs}
-use Rattle.plane.proofs.Pairs.{ij-minus, ij-same, same-ij, triple-path}
+use Rattle.plane.proofs.Pairs.{shift-plus, ij-minus, ij-same, same-ij, triple-path}
 
 -- the largest component of a normal form, as the largest less the least
 span-law : (a b c : ℤ) → greater (a -ℤ lesser a (lesser b c)) (greater (b -ℤ lesser a (lesser b c)) (c -ℤ lesser a (lesser b c))) ≡ greater a (greater b c) -ℤ lesser a (lesser b c)
@@ -68,13 +68,10 @@ distance-sym s t =
     let e : minus s t ≡ triple (negℤ (d .i)) (negℤ (d .j)) (negℤ (d .k)) = triple-path _ _ _ _ _ _ (opposite (s .i) (t .i)) (opposite (s .j) (t .j)) (opposite (s .k) (t .k)) in
     span (minus s t) ∙ ap (λ (u : IJK). largest u -ℤ least u) e ∙ flip (d .i) (d .j) (d .k) ∙ sym (span d)
 
-moved-law : (a b m : ℤ) → (a +ℤ m) -ℤ (b +ℤ m) ≡ a -ℤ b
-moved-law a b m = rw (← whole a, ← whole b, ← whole m) (simp diffs (omega arith))
-
 pub distance-moved : (s t u : IJK) → distance (plus s u) (plus t u) ≡ distance s t
 distance-moved s t u =
     ap (λ (d : IJK). largest (normal d))
-    (triple-path _ _ _ _ _ _ (moved-law (s .i) (t .i) (u .i)) (moved-law (s .j) (t .j) (u .j)) (moved-law (s .k) (t .k) (u .k)))
+    (triple-path _ _ _ _ _ _ (shift-plus (s .i) (t .i) (u .i)) (shift-plus (s .j) (t .j) (u .j)) (shift-plus (s .k) (t .k) (u .k)))
 
 module _ (a b c d e f : ℤ) where
   greater-add : T (leZ (greater (a +ℤ d) (greater (b +ℤ e) (c +ℤ f))) (greater a (greater b c) +ℤ greater d (greater e f)))

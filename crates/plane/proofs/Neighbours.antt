@@ -3,7 +3,7 @@ use mathlib.Core.Path.{_≡_, sym, ap, ap₂, _∙_, subst}
 use Prim.Native.Nat.{ℕ, zero, suc, _<_, min}
 use native.Mathlib.Omega.{arith}
 use lib.Dec.{T}
-use lib.IntN.{ℤ, pos, natAbs, _+ℤ_, _-ℤ_}
+use lib.IntN.{ℤ, pos, natAbs, _+ℤ_, _-ℤ_, +ℤ-idr}
 use lib.Signed.{leZ}
 use Rattle.plane.specs.Directions.{unit}
 use Rattle.plane.specs.Points.{largest, normal, Same, equal, pair, ij, plus, minus, distance, value}
@@ -16,9 +16,6 @@ use Rattle.plane.proofs.Pairs.{_⊕_, _⊖_, ij-plus, ij-minus, ij-same
 use Rattle.plane.proofs.Units.{small-unit, unit-normal, unit-one}
 
 module _ (a b c : ℤ) where
-  add-zero : a +ℤ pos 0 ≡ a
-  add-zero = rw (← whole a) (simp diffs (omega arith))
-
   cancel : a +ℤ b ≡ a +ℤ c → b ≡ c
   cancel e =
       let h = simp diffs at (rw (← whole a, ← whole b, ← whole c) at e) in
@@ -33,7 +30,7 @@ module _ (a b c : ℤ) where
       rw (← whole a, ← whole b, ← whole c) (simp diffs (omega arith))
 
 pub neighbour-zero : (t : IJK) → Same (plus t (unit 0)) t
-neighbour-zero t = ij-same (plus t (unit 0)) t (ij-plus t (unit 0) ∙ ap₂ pair (add-zero (ij t .i) (pos 0) (pos 0)) (add-zero (ij t .j) (pos 0) (pos 0)))
+neighbour-zero t = ij-same (plus t (unit 0)) t (ij-plus t (unit 0) ∙ ap₂ pair (+ℤ-idr (ij t .i)) (+ℤ-idr (ij t .j)))
 
 -- on pairs, for what adds a unit vector to more than a point
 pub pair-cancel : (p q r : IJ) → p ⊕ q ≡ p ⊕ r → q ≡ r

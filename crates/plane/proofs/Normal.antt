@@ -12,7 +12,7 @@ use Rattle.plane.specs.declared.ijk.IJK.{IJK}
 use Rattle.plane.specs.declared.ijk.IJ.{IJ}
 use Rattle.plane.proofs.Every.{left, right, both}
 use Rattle.plane.proofs.Whole.{whole, diffs, equal-eq, eq-equal}
-use Rattle.plane.proofs.Pairs.{ij-normal, ij-same, same-ij, triple-path}
+use Rattle.plane.proofs.Pairs.{shift-plus, ij-normal, ij-same, same-ij, triple-path, self}
 
 least-law : (a b c : ℤ) → lesser (a -ℤ lesser a (lesser b c)) (lesser (b -ℤ lesser a (lesser b c)) (c -ℤ lesser a (lesser b c))) ≡ pos 0
 least-law a b c = rw (← whole a, ← whole b, ← whole c) (simp diffs (omega arith))
@@ -36,19 +36,13 @@ moved-law a c a' c' e =
     let h = simp diffs at (rw (← whole a, ← whole c, ← whole a', ← whole c') at e) in
     rw (← whole a, ← whole c, ← whole a', ← whole c') (simp diffs (omega arith))
 
-unmoved-law : (a c m : ℤ) → (a +ℤ m) -ℤ (c +ℤ m) ≡ a -ℤ c
-unmoved-law a c m = rw (← whole a, ← whole c, ← whole m) (simp diffs (omega arith))
-
-self-law : (c c' : ℤ) → c -ℤ c ≡ c' -ℤ c'
-self-law c c' = rw (← whole c, ← whole c') (simp diffs (omega arith))
-
 pub same-moved : (s t : IJK) → Same s t ↔ ((m : ℤ) × (s ≡ plus t (triple m m m)))
 same-moved s t = (
   λ e.
       let p = same-ij s t e in
       let m = s .k -ℤ t .k in
-      (m, triple-path _ _ _ _ _ _ (moved-law (s .i) (s .k) (t .i) (t .k) (ap (λ (u : IJ). u .i) p)) (moved-law (s .j) (s .k) (t .j) (t .k) (ap (λ (u : IJ). u .j) p)) (moved-law (s .k) (s .k) (t .k) (t .k) (self-law (s .k) (t .k)))),
-  λ w. ij-same s t (ap ij (w .1) ∙ ap₂ pair (unmoved-law (t .i) (t .k) (w .0)) (unmoved-law (t .j) (t .k) (w .0))),
+      (m, triple-path _ _ _ _ _ _ (moved-law (s .i) (s .k) (t .i) (t .k) (ap (λ (u : IJ). u .i) p)) (moved-law (s .j) (s .k) (t .j) (t .k) (ap (λ (u : IJ). u .j) p)) (moved-law (s .k) (s .k) (t .k) (t .k) (self (s .k) (t .k)))),
+  λ w. ij-same s t (ap ij (w .1) ∙ ap₂ pair (shift-plus (t .i) (t .k) (w .0)) (shift-plus (t .j) (t .k) (w .0))),
 )
 
 -- the test says so

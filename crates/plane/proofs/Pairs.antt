@@ -3,7 +3,7 @@
 use mathlib.Core.Path.{_≡_, sym, ap, ap₂, _∙_}
 use mathlib.Core.Bool.{Bool, true, false}
 use native.Mathlib.Omega.{arith}
-use lib.IntN.{ℤ, pos, _+ℤ_, _-ℤ_, _*ℤ_}
+use lib.IntN.{ℤ, pos, _+ℤ_, _-ℤ_, _*ℤ_, +ℤ-idr}
 use Rattle.plane.specs.Directions.{triple}
 use Rattle.plane.specs.Points.{lesser, least, normal, Same, pair, ij, plus, minus, down7, turned, of-ij}
 use Rattle.plane.specs.declared.ijk.IJK.{IJK}
@@ -73,6 +73,9 @@ ij-turned true t = ap₂ pair (row-5 (t .i) (t .j) (t .k)) (row-6 (t .i) (t .j) 
 ij-turned false t = ap₂ pair (row-7 (t .i) (t .j) (t .k)) (row-8 (t .i) (t .j) (t .k))
 
 -- one point, one pair
+pub shift-plus : (a b m : ℤ) → (a +ℤ m) -ℤ (b +ℤ m) ≡ a -ℤ b
+shift-plus a b m = rw (← whole a, ← whole b, ← whole m) (simp diffs (omega arith))
+
 shift : (a b m : ℤ) → (a -ℤ m) -ℤ (b -ℤ m) ≡ a -ℤ b
 shift a b m = rw (← whole a, ← whole b, ← whole m) (simp diffs (omega arith))
 
@@ -90,7 +93,7 @@ module _ (a b c a' b' c' : ℤ) (p : a -ℤ c ≡ a' -ℤ c') (q : b -ℤ c ≡ 
 pub triple-path : (a b c a' b' c' : ℤ) → a ≡ a' → b ≡ b' → c ≡ c' → triple a b c ≡ triple a' b' c'
 triple-path a b c a' b' c' p q r = cc
 
-self : (c c' : ℤ) → c -ℤ c ≡ c' -ℤ c'
+pub self : (c c' : ℤ) → c -ℤ c ≡ c' -ℤ c'
 self c c' = rw (← whole c, ← whole c') (simp diffs (omega arith))
 
 pub ij-same : (s t : IJK) → ij s ≡ ij t → Same s t
@@ -103,12 +106,9 @@ ij-same s t e =
 pub same-ij : (s t : IJK) → Same s t → ij s ≡ ij t
 same-ij s t e = sym (ij-normal s) ∙ ap ij e ∙ ij-normal t
 
-less-zero : (x : ℤ) → x -ℤ pos 0 ≡ x
-less-zero x = rw (← whole x) (simp diffs (omega arith))
-
 -- the point of a pair has that pair, and the point of a triple's pair is that point
 pub ij-of-ij : (p : IJ) → ij (of-ij p) ≡ p
-ij-of-ij p = ij-normal (triple (p .i) (p .j) (pos 0)) ∙ ap₂ pair (less-zero (p .i)) (less-zero (p .j))
+ij-of-ij p = ij-normal (triple (p .i) (p .j) (pos 0)) ∙ ap₂ pair (+ℤ-idr (p .i)) (+ℤ-idr (p .j))
 
 pub of-ij-ij : (t : IJK) → of-ij (ij t) ≡ normal t
-of-ij-ij t = ij-same (triple (ij t .i) (ij t .j) (pos 0)) t (ap₂ pair (less-zero (ij t .i)) (less-zero (ij t .j)))
+of-ij-ij t = ij-same (triple (ij t .i) (ij t .j) (pos 0)) t (ap₂ pair (+ℤ-idr (ij t .i)) (+ℤ-idr (ij t .j)))

@@ -3,7 +3,7 @@ use mathlib.Core.Path.{_≡_, sym, ap, ap₂, _∙_, subst}
 use mathlib.Core.Bool.{Bool, true, false}
 use Prim.Native.Nat.{ℕ, _+_, _*_, _<_, _≤_}
 use native.Mathlib.Omega.{arith}
-use lib.Dec.{T}
+use lib.Dec.{T, lit<}
 use lib.IntN.{ℤ, pos, negℤ, natAbs, _+ℤ_, _-ℤ_, _*ℤ_, +ℤ-comm}
 use lib.Signed.{leZ}
 use Rattle.plane.specs.Directions.{triple, unit}
@@ -17,7 +17,7 @@ use Rattle.plane.proofs.Sevenths.{nearest-near, nearest-little}
 use Rattle.plane.proofs.Normal.{normal-least}
 use Rattle.plane.proofs.Distances.{span}
 use Rattle.plane.proofs.Units.{small-unit, unit-normal}
-use Rattle.plane.proofs.Neighbours.{unit-cancel, differs}
+use Rattle.plane.proofs.Neighbours.{neighbour-zero, unit-cancel, differs}
 
 -- up, of pairs
 abbrev pub up-ij : Bool → IJ → IJ
@@ -63,6 +63,9 @@ ij-under o t d = ij-plus (down7 o t) (unit d) ∙ ap (λ (p : IJ). p ⊕ ij (uni
 pub up-down : (o : Bool) (t : IJK) (d : ℕ) → d < 7 → (s : IJK) → Same s (plus (down7 o t) (unit d)) → up7 o s ≡ normal t
 up-down o t d h s e =
     ap of-ij (ap (up-ij o) (same-ij s (plus (down7 o t) (unit d)) e ∙ ij-under o t d) ∙ sym (up-down-ij o (ij t) d h)) ∙ of-ij-ij t
+
+pub up-undoes-down : (o : Bool) (t : IJK) → up7 o (down7 o t) ≡ normal t
+up-undoes-down o t = up-down o t 0 (lit< tt) (down7 o t) (sym (neighbour-zero (down7 o t)))
 
 -- in one way
 pub one-way-ij : (o : Bool) (p q : IJ) (d e : ℕ) → d < 7 → e < 7 → down-ij o p ⊕ ij (unit d) ≡ down-ij o q ⊕ ij (unit e) → (p ≡ q) × (d ≡ e)

@@ -211,12 +211,20 @@ fn shifted(p: IJK, ccw: bool) -> IJK
     }
 }
 
-// Down by aperture 7: each unit vector goes to three of itself and one of its neighbour on one side.
+// The three images have one shape: a-fold the point, and its components moved by one place.
+fn image(a: u8, p: IJK, ccw: bool) -> IJK
+    requires { ⌜ (a ≤ 3) × (Within 250000000 p) ⌝ }
+    ensures { λ r. ⌜ r ≡ points.normal (weighed a p (beside ccw p)) ⌝ }
+{
+    weighted(a, p, shifted(p, ccw))
+}
+
+// Down by aperture 7.
 pub fn down_aperture7(p: IJK, ccw: bool) -> IJK
     requires { ⌜ Within 250000000 p ⌝ }
     ensures { λ r. ⌜ r ≡ points.normal (points.down7 ccw p) ⌝ }
 {
-    weighted(3, p, shifted(p, ccw))
+    image(3, p, ccw)
 }
 
 // Down by aperture 3.
@@ -224,7 +232,7 @@ pub fn down_aperture3(p: IJK, ccw: bool) -> IJK
     requires { ⌜ Within 250000000 p ⌝ }
     ensures { λ r. ⌜ r ≡ points.normal (points.down3 ccw p) ⌝ }
 {
-    weighted(2, p, shifted(p, ccw))
+    image(2, p, ccw)
 }
 
 // Turned by 60 degrees.
@@ -232,7 +240,7 @@ pub fn rotate60(p: IJK, ccw: bool) -> IJK
     requires { ⌜ Within 250000000 p ⌝ }
     ensures { λ r. ⌜ r ≡ points.normal (points.turned ccw p) ⌝ }
 {
-    weighted(1, p, shifted(p, !ccw))
+    image(1, p, !ccw)
 }
 
 // The whole number nearest to a seventh. Division rounds toward zero, so 3 is added away from zero first.

@@ -1,7 +1,7 @@
 -- One byte more: what it does to the digits of a word, their value and the scanner's state.
-use Prim.Native.Nat.{ℕ, zero, suc, _+_, _-_, _*_, _/_, _^_, _≤_, _<_, min}
-use mathlib.Core.Path.{_≡_, refl, sym, ap, subst, _∙_}
-use mathlib.Core.Logic.{_⊎_, inl, inr}
+use Prim.Native.Nat.{ℕ, _+_, _-_, _*_, _/_, _^_, _≤_, _<_}
+use mathlib.Core.Path.{_≡_, refl, sym, ap, _∙_}
+use mathlib.Core.Logic.{inl, inr}
 use mathlib.Core.Bool.{Bool, true, false, _&&_}
 use mathlib.Core.List.{List, [], _∷_, _++_}
 use native.Mathlib.Nat.{mul-le-mul-left, mul-le-mul-right, pow-zero, pow-suc, le-div-iff-mul-le, div-lt-iff-lt-mul}
@@ -10,10 +10,9 @@ use lib.Dec.{ltb}
 use lib.ListN.{length, length-append}
 use borrow.Author.Tests.{lt-ltb, le-ltb, ltb-true}
 use Rattle.words.specs.Numeral.{digitOf, digits, onward, value}
-use Rattle.words.specs.Reading.{Beyond, Within, held, Spells}
-use Rattle.words.specs.declared.word.Digits.{Digits}
+use Rattle.words.specs.Reading.{Beyond, Within}
 
-and-true : (t : Bool) → t && true ≡ t
+pub and-true : (t : Bool) → t && true ≡ t
 and-true true = refl
 and-true false = refl
 

@@ -1,18 +1,18 @@
 -- The scanner's state, step by step, and the numbers that it answers.
-use Prim.Native.Nat.{ℕ, zero, suc, _+_, _-_, _*_, _^_, _≤_, _<_, min}
+use Prim.Native.Nat.{ℕ, _+_, _^_, _≤_, _<_, min}
 use mathlib.Core.Path.{_≡_, refl, sym, ap, subst, _∙_}
-use mathlib.Core.Logic.{_⊎_, inl, inr}
+use mathlib.Core.Logic.{inl, inr}
 use mathlib.Core.Bool.{Bool, true, false, cond, _&&_}
 use mathlib.Core.List.{List, [], _∷_, _++_}
 use native.Mathlib.Nat.{pow-le-pow-right, suc-ne-zero}
 use native.Mathlib.Omega.{arith}
 use denote.Enum.Declared
 use types.Run
-use lib.Dec.{ltb, leb, eqb}
+use lib.Dec.{ltb, eqb}
 use lib.ListN.{length}
 use lib.IntN.{pos}
 use borrow.Author.Tests.{lt-ltb, le-ltb, ltb-true, le-leb, lt-leb, eqb-true, ne-eqb}
-use Rattle.words.specs.Numeral.{digitOf, digits, onward, value, numeral, hexadecimal, natural64, natural32, integer32, minus, bare}
+use Rattle.words.specs.Numeral.{digitOf, digits, value, numeral, hexadecimal, natural64, natural32, integer32, minus, bare}
 use Rattle.words.specs.Reading.{Beyond, Within, held, Spells, Reads, natural, negated}
 use Rattle.words.specs.declared.word.Digits.{Digits}
 use Rattle.words.specs.declared.word.Word.{Word}

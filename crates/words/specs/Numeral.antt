@@ -5,14 +5,14 @@ use mathlib.Core.Bool.{Bool, true, false, cond, _&&_}
 use mathlib.Core.List.{List, [], _∷_}
 use lib.Dec.{ltb, leb, eqb}
 use lib.ListN.{length}
-use lib.IntN.{ℤ, pos, negℤ}
+use lib.IntN.{pos, negℤ}
 use Rattle.words.specs.declared.word.Number.{Number}
 use Rattle.words.specs.declared.word.Small.{Small}
 use Rattle.words.specs.declared.word.Signed.{Signed}
 
 -- `0` to `9`, `a` to `f`; 16 for any other byte
 abbrev pub digitOf : ℕ → ℕ
-digitOf b = cond (ltb b 48) 16 (cond (ltb b 58) (b - 48) (cond (ltb b 97) 16 (cond (ltb b 103) (b - 87) 16)))
+digitOf b = cond (ltb b 48) 16 (cond (leb b 57) (b - 48) (cond (ltb b 97) 16 (cond (leb b 102) (b - 97 + 10) 16)))
 
 -- each byte is a digit of the base
 unfoldable pub digits : ℕ → List ℕ → Bool

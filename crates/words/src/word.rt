@@ -1,8 +1,8 @@
-// A word of a line, read byte by byte in constant space: its readings as a number.
+// A word: its readings as a number, kept up at each byte.
 ghost use mathlib.Core.Path.{_≡_};
+ghost use mathlib.Core.Bool.{true};
 ghost use mathlib.Core.List.{List, [], _∷_, _++_};
 ghost use Prim.Native.Nat.{ℕ, _+_, _<_, _≤_, min};
-ghost use mathlib.Core.Bool.{true};
 ghost use Rattle.words.specs.Numeral.{digitOf, hexadecimal, natural64, natural32, integer32};
 ghost use Rattle.words.specs.Reading.{Spells, Reads, natural, negated};
 
@@ -40,17 +40,17 @@ pub struct Word {
 fn digit(b: u8) -> u64
     ensures { λ r. ⌜ r ≡ digitOf b ⌝ }
 {
-    if b < 48 {
+    if b < b'0' {
         return 16;
     }
-    if b < 58 {
-        return (b - 48) as u64;
+    if b <= b'9' {
+        return (b - b'0') as u64;
     }
-    if b < 97 {
+    if b < b'a' {
         return 16;
     }
-    if b < 103 {
-        return (b - 87) as u64;
+    if b <= b'f' {
+        return (b - b'a') as u64 + 10;
     }
     16
 }

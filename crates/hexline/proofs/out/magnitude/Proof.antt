@@ -1,12 +1,11 @@
 -- `hexline::out::magnitude` meets its contract: below zero the size is one more than -1 - n.
 use borrow.Author.Needs.{needs}
-use Prim.Native.Nat.{_+_, _^_, _<_}
-use mathlib.Core.Path.{_≡_, ap, _∙_}
+use mathlib.Core.Path.{_≡_, _∙_}
 use native.Mathlib.Omega.{arith}
-use lib.IntN.{pos, negsuc, natAbs, _-ℤ_}
+use lib.IntN.{pos, negsuc, _-ℤ_}
 use lib.Signed.{mag}
 use mir.Syntax.{w32}
-use mir.Val.{SFits, toZ, ofZ}
+use mir.Val.{toZ, ofZ}
 use mir.Facts.{toZ-ofZ}
 use Rattle.hexline.proofs.Sizes.{minus-below, size-below, not-below, size-fits}
 use Rattle.hexline.proofs.out.magnitude.Statement.{statement}

@@ -1,3 +1,4 @@
+-- `hexline::out::written` is safe: the part is within the buffer.
 use borrow.Author.Needs.{needs}
 use mathlib.Core.Path.{sym}
 use lib.Seq.{length-take-le}

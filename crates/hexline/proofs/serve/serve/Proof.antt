@@ -1,3 +1,4 @@
+-- `hexline::serve::serve` is safe and ends. The measure is the number of turns that are left.
 use borrow.Author.Needs.{needs}
 use Rattle.hexline.proofs.serve.serve.Statement.{statement}
 use Rattle.hexline.proofs.serve.serve.Tie as tie

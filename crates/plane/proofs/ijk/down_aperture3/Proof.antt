@@ -1,29 +1,16 @@
 -- `plane::ijk::down_aperture3` meets its contract. Assumes nothing.
-use mathlib.Core.Path.{sym, ap, _∙_, subst}
+use mathlib.Core.Path.{ap, _∙_}
 use borrow.Author.Needs.{needs}
-use lib.Dec.{lit≤}
 use Rattle.plane.specs.Points.{normal}
-use Rattle.plane.specs.Inside.{Weighs, weighed}
-use Rattle.plane.specs.declared.ijk.IJK.{IJK}
-use Rattle.plane.proofs.Bounds.{weighs-beside}
 use Rattle.plane.proofs.Rows.{down3-shape}
 use Rattle.plane.proofs.ijk.down_aperture3.Statement.{statement}
 use Rattle.plane.proofs.ijk.down_aperture3.Tie as tie
 
-shifted-requires : tie.Need-shifted-requires
-shifted-requires c κs = search needs
-
-weighted-requires : tie.Need-weighted-requires
-weighted-requires c κs =
-    subst (λ (q : IJK). Weighs 1000000000 2 (c .before .args .p) q) (sym (c .shifted .ensures))
-    (weighs-beside 1000000000 2 250000000 (c .before .args .ccw) (c .before .args .p) (lit≤ tt) (c .before .pre))
+image-requires : tie.Need-image-requires
+image-requires c κs = search needs
 
 returns : tie.Need-returns
-returns c =
-    let a = c .before .before .args in
-    c .weighted .ensures
-    ∙ ap (λ (q : IJK). normal (weighed 2 (a .p) q)) (c .before .shifted .ensures)
-    ∙ ap normal (down3-shape (a .ccw) (a .p))
+returns c = c .image .ensures ∙ ap normal (down3-shape (c .before .args .ccw) (c .before .args .p))
 
 pub down-aperture3-spec : {M : Type 1} → statement M
-down-aperture3-spec = tie.close (tie.spec shifted-requires weighted-requires returns)
+down-aperture3-spec = tie.close (tie.spec image-requires returns)

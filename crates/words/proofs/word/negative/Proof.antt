@@ -1,3 +1,4 @@
+-- `words::word::negative` meets its contract: -n is -1 - (n - 1), which fits 32 bits.
 use borrow.Author.Needs.{needs}
 use Prim.Native.Nat.{_+_, _-_, _^_, _<_}
 use mathlib.Core.Path.{_≡_, ap, _∙_}

@@ -1,3 +1,4 @@
+-- `words::word::Digits::fed` meets its contract: a byte that is no digit or leaves no room loses the value, any other is one digit more.
 use borrow.Author.Needs.{needs}
 use Prim.Native.Nat.{_+_, _*_, _^_, _<_}
 use native.Mathlib.Omega.{arith}

@@ -1,3 +1,4 @@
+-- `words::word::Digits::number` meets its contract, by the three ways to answer.
 use mathlib.Core.Path.{sym, _∙_}
 use native.Mathlib.Omega.{arith}
 use lib.ListN.{length}

@@ -1,3 +1,4 @@
+-- `words::word::Word::fed` meets its contract: a `-` in front is no digit of the decimal reading, any other byte is fed to both.
 use borrow.Author.Needs.{needs}
 use Prim.Native.Nat.{ℕ, min}
 use mathlib.Core.Path.{sym, ap, _∙_}

@@ -1,3 +1,4 @@
+-- `words::word::Word::hexadecimal` meets its contract: more than 16 digits are none, and 16 fit 64 bits.
 use borrow.Author.Needs.{needs}
 use mathlib.Core.Path.{_∙_}
 use lib.ListN.{length}

@@ -1,3 +1,4 @@
+-- `words::word::Word::integer32` meets its contract, from what the digits after the sign say.
 use borrow.Author.Needs.{needs}
 use mathlib.Core.Path.{sym, ap, _∙_}
 use native.Mathlib.Omega.{arith}

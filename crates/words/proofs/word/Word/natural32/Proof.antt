@@ -1,3 +1,4 @@
+-- `words::word::Word::natural32` meets its contract, from what `natural64` says of the word.
 use borrow.Author.Needs.{needs}
 use mathlib.Core.Path.{sym, _∙_}
 use native.Mathlib.Omega.{arith}

@@ -1,3 +1,4 @@
+-- `words::word::Word::natural64` meets its contract.
 use borrow.Author.Needs.{needs}
 use Prim.Native.Nat.{ℕ}
 use mathlib.Core.Path.{sym, ap, _∙_}

@@ -1,3 +1,4 @@
+-- `words::word::Word::new` meets its contract.
 use borrow.Author.Needs.{needs}
 use mathlib.Core.Path.{refl}
 use Rattle.words.proofs.word.Word.new.Statement.{statement}

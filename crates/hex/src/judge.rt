@@ -1,0 +1,40 @@
+// What entries judge of the numbers handed in, but for a cell.
+ghost use mathlib.Core.Path.{_≡_};
+ghost use mathlib.Core.Bool.{cond};
+ghost use lib.Dec.{ltb};
+ghost use Rattle.plane.specs.Directions.{triple};
+ghost use Rattle.plane.specs.Ranges.{point-in-range};
+use plane::direction;
+use plane::direction::Direction;
+use plane::ijk;
+use plane::ijk::IJK;
+
+// 0 to 6, or refusal 13.
+pub(crate) enum Heading {
+    To(Direction),
+    Nowhere,
+}
+
+pub(crate) fn head(number: u32) -> Heading
+    ensures { λ r. ⌜ r ≡ cond (ltb 6 number) Heading.Nowhere (Heading.To (record { 0 = number })) ⌝ }
+{
+    if 6 < number {
+        return Heading::Nowhere;
+    }
+    Heading::To(direction::new_unchecked(number as u8))
+}
+
+// A point within the range, or refusal 14.
+pub(crate) enum Place {
+    Within(IJK),
+    Outside,
+}
+
+pub(crate) fn locate(i: i32, j: i32, k: i32) -> Place
+    ensures { λ r. ⌜ r ≡ cond (point-in-range (triple i j k)) (Place.Within (triple i j k)) Place.Outside ⌝ }
+{
+    if ijk::point_in_range(i, j, k) {
+        return Place::Within(IJK { i, j, k });
+    }
+    Place::Outside
+}
