@@ -2,7 +2,6 @@
 ghost use mathlib.Core.Path.{_≡_};
 ghost use mathlib.Core.Bool.{cond};
 ghost use lib.Dec.{ltb};
-ghost use Rattle.plane.specs.Directions.{triple};
 ghost use Rattle.plane.specs.Ranges.{point-in-range};
 use plane::direction;
 use plane::direction::Direction;
@@ -30,11 +29,11 @@ pub(crate) enum Place {
     Outside,
 }
 
-pub(crate) fn locate(i: i32, j: i32, k: i32) -> Place
-    ensures { λ r. ⌜ r ≡ cond (point-in-range (triple i j k)) (Place.Within (triple i j k)) Place.Outside ⌝ }
+pub(crate) fn locate(p: IJK) -> Place
+    ensures { λ r. ⌜ r ≡ cond (point-in-range p) (Place.Within p) Place.Outside ⌝ }
 {
-    if ijk::point_in_range(i, j, k) {
-        return Place::Within(IJK { i, j, k });
+    if ijk::point_in_range(p) {
+        return Place::Within(p);
     }
     Place::Outside
 }

@@ -1,8 +1,6 @@
 // Entries on directions and points. A direction is judged before a range, whatever the order of the parameters.
 ghost use mathlib.Core.Path.{_≡_};
 ghost use mathlib.Core.Bool.{true, false};
-ghost use Rattle.plane.specs.Directions.{triple};
-ghost use Rattle.plane.specs.Points.{pair};
 ghost use Rattle.hex.specs.Answers.{toldNumber, toldTruth, toldPoint, toldPair};
 ghost use Rattle.hex.specs.Points.{unitOf, directionTurnOf, normaliseOf, neighbourOf, sameOf, distanceOf, toIjOf, fromIjOf, down7Of, down3Of, pointTurnOf, up7Of, directionOf};
 use crate::answers::Number;
@@ -16,6 +14,8 @@ use crate::judge::locate;
 use index::inside::refusal;
 use plane::direction;
 use plane::ijk;
+use plane::ijk::IJ;
+use plane::ijk::IJK;
 use plane::ijk::Way;
 
 pub fn unit(direction: u32) -> Point
@@ -54,174 +54,176 @@ pub fn direction_turn_cw(direction: u32, count: u32) -> Number
     direction_turn(direction, count, false)
 }
 
-pub fn normalise(i: i32, j: i32, k: i32) -> Point
-    ensures { λ r. ⌜ toldPoint r ≡ normaliseOf (triple i j k) ⌝ }
+pub fn normalise(p: IJK) -> Point
+    ensures { λ r. ⌜ toldPoint r ≡ normaliseOf p ⌝ }
 {
-    let a = locate(i, j, k);
-    let Place::Within(p) = a else {
+    let a = locate(p);
+    let Place::Within(at) = a else {
         return Point::Refused(refusal(14));
     };
-    Point::At(ijk::normalize(p))
+    Point::At(ijk::normalize(at))
 }
 
-pub fn neighbour(i: i32, j: i32, k: i32, direction: u32) -> Point
-    ensures { λ r. ⌜ toldPoint r ≡ neighbourOf (triple i j k) direction ⌝ }
+pub fn neighbour(p: IJK, direction: u32) -> Point
+    ensures { λ r. ⌜ toldPoint r ≡ neighbourOf p direction ⌝ }
 {
     let a = head(direction);
     let Heading::To(d) = a else {
         return Point::Refused(refusal(13));
     };
-    let b = locate(i, j, k);
-    let Place::Within(p) = b else {
+    let b = locate(p);
+    let Place::Within(at) = b else {
         return Point::Refused(refusal(14));
     };
-    Point::At(ijk::neighbor(p, d))
+    Point::At(ijk::neighbor(at, d))
 }
 
-pub fn same_point(i: i32, j: i32, k: i32, l: i32, m: i32, n: i32) -> Truth
-    ensures { λ r. ⌜ toldTruth r ≡ sameOf (triple i j k) (triple l m n) ⌝ }
+pub fn same_point(p: IJK, q: IJK) -> Truth
+    ensures { λ r. ⌜ toldTruth r ≡ sameOf p q ⌝ }
 {
-    let a = locate(i, j, k);
-    let Place::Within(p) = a else {
+    let a = locate(p);
+    let Place::Within(at) = a else {
         return Truth::Refused(refusal(14));
     };
-    let b = locate(l, m, n);
-    let Place::Within(q) = b else {
+    let b = locate(q);
+    let Place::Within(to) = b else {
         return Truth::Refused(refusal(14));
     };
-    Truth::Is(ijk::same_point(p, q))
+    Truth::Is(ijk::same_point(at, to))
 }
 
-pub fn distance(i: i32, j: i32, k: i32, l: i32, m: i32, n: i32) -> Number
-    ensures { λ r. ⌜ toldNumber r ≡ distanceOf (triple i j k) (triple l m n) ⌝ }
+pub fn distance(p: IJK, q: IJK) -> Number
+    ensures { λ r. ⌜ toldNumber r ≡ distanceOf p q ⌝ }
 {
-    let a = locate(i, j, k);
-    let Place::Within(p) = a else {
+    let a = locate(p);
+    let Place::Within(at) = a else {
         return Number::Refused(refusal(14));
     };
-    let b = locate(l, m, n);
-    let Place::Within(q) = b else {
+    let b = locate(q);
+    let Place::Within(to) = b else {
         return Number::Refused(refusal(14));
     };
-    Number::Is(ijk::distance(p, q) as u64)
+    Number::Is(ijk::distance(at, to) as u64)
 }
 
-pub fn to_ij(i: i32, j: i32, k: i32) -> Pair
-    ensures { λ r. ⌜ toldPair r ≡ toIjOf (triple i j k) ⌝ }
+pub fn to_ij(p: IJK) -> Pair
+    ensures { λ r. ⌜ toldPair r ≡ toIjOf p ⌝ }
 {
-    let a = locate(i, j, k);
-    let Place::Within(p) = a else {
+    let a = locate(p);
+    let Place::Within(at) = a else {
         return Pair::Refused(refusal(14));
     };
-    Pair::At(ijk::to_ij(p))
+    Pair::At(ijk::to_ij(at))
 }
 
-pub fn from_ij(i: i32, j: i32) -> Point
-    ensures { λ r. ⌜ toldPoint r ≡ fromIjOf (pair i j) ⌝ }
+pub fn from_ij(p: IJ) -> Point
+    ensures { λ r. ⌜ toldPoint r ≡ fromIjOf p ⌝ }
 {
-    let a = locate(i, j, 0);
-    let Place::Within(_p) = a else {
+    let i = p.i;
+    let j = p.j;
+    let a = locate(IJK { i, j, k: 0 });
+    let Place::Within(_at) = a else {
         return Point::Refused(refusal(14));
     };
     Point::At(ijk::of_ij(i, j))
 }
 
-fn down7(i: i32, j: i32, k: i32, ccw: bool) -> Point
-    ensures { λ r. ⌜ toldPoint r ≡ down7Of ccw (triple i j k) ⌝ }
+fn down7(p: IJK, ccw: bool) -> Point
+    ensures { λ r. ⌜ toldPoint r ≡ down7Of ccw p ⌝ }
 {
-    let a = locate(i, j, k);
-    let Place::Within(p) = a else {
+    let a = locate(p);
+    let Place::Within(at) = a else {
         return Point::Refused(refusal(14));
     };
-    Point::At(ijk::down_aperture7(p, ccw))
+    Point::At(ijk::down_aperture7(at, ccw))
 }
 
-pub fn down7_ccw(i: i32, j: i32, k: i32) -> Point
-    ensures { λ r. ⌜ toldPoint r ≡ down7Of true (triple i j k) ⌝ }
+pub fn down7_ccw(p: IJK) -> Point
+    ensures { λ r. ⌜ toldPoint r ≡ down7Of true p ⌝ }
 {
-    down7(i, j, k, true)
+    down7(p, true)
 }
 
-pub fn down7_cw(i: i32, j: i32, k: i32) -> Point
-    ensures { λ r. ⌜ toldPoint r ≡ down7Of false (triple i j k) ⌝ }
+pub fn down7_cw(p: IJK) -> Point
+    ensures { λ r. ⌜ toldPoint r ≡ down7Of false p ⌝ }
 {
-    down7(i, j, k, false)
+    down7(p, false)
 }
 
-fn down3(i: i32, j: i32, k: i32, ccw: bool) -> Point
-    ensures { λ r. ⌜ toldPoint r ≡ down3Of ccw (triple i j k) ⌝ }
+fn down3(p: IJK, ccw: bool) -> Point
+    ensures { λ r. ⌜ toldPoint r ≡ down3Of ccw p ⌝ }
 {
-    let a = locate(i, j, k);
-    let Place::Within(p) = a else {
+    let a = locate(p);
+    let Place::Within(at) = a else {
         return Point::Refused(refusal(14));
     };
-    Point::At(ijk::down_aperture3(p, ccw))
+    Point::At(ijk::down_aperture3(at, ccw))
 }
 
-pub fn down3_ccw(i: i32, j: i32, k: i32) -> Point
-    ensures { λ r. ⌜ toldPoint r ≡ down3Of true (triple i j k) ⌝ }
+pub fn down3_ccw(p: IJK) -> Point
+    ensures { λ r. ⌜ toldPoint r ≡ down3Of true p ⌝ }
 {
-    down3(i, j, k, true)
+    down3(p, true)
 }
 
-pub fn down3_cw(i: i32, j: i32, k: i32) -> Point
-    ensures { λ r. ⌜ toldPoint r ≡ down3Of false (triple i j k) ⌝ }
+pub fn down3_cw(p: IJK) -> Point
+    ensures { λ r. ⌜ toldPoint r ≡ down3Of false p ⌝ }
 {
-    down3(i, j, k, false)
+    down3(p, false)
 }
 
-fn point_turn(i: i32, j: i32, k: i32, ccw: bool) -> Point
-    ensures { λ r. ⌜ toldPoint r ≡ pointTurnOf ccw (triple i j k) ⌝ }
+fn point_turn(p: IJK, ccw: bool) -> Point
+    ensures { λ r. ⌜ toldPoint r ≡ pointTurnOf ccw p ⌝ }
 {
-    let a = locate(i, j, k);
-    let Place::Within(p) = a else {
+    let a = locate(p);
+    let Place::Within(at) = a else {
         return Point::Refused(refusal(14));
     };
-    Point::At(ijk::rotate60(p, ccw))
+    Point::At(ijk::rotate60(at, ccw))
 }
 
-pub fn point_turn_ccw(i: i32, j: i32, k: i32) -> Point
-    ensures { λ r. ⌜ toldPoint r ≡ pointTurnOf true (triple i j k) ⌝ }
+pub fn point_turn_ccw(p: IJK) -> Point
+    ensures { λ r. ⌜ toldPoint r ≡ pointTurnOf true p ⌝ }
 {
-    point_turn(i, j, k, true)
+    point_turn(p, true)
 }
 
-pub fn point_turn_cw(i: i32, j: i32, k: i32) -> Point
-    ensures { λ r. ⌜ toldPoint r ≡ pointTurnOf false (triple i j k) ⌝ }
+pub fn point_turn_cw(p: IJK) -> Point
+    ensures { λ r. ⌜ toldPoint r ≡ pointTurnOf false p ⌝ }
 {
-    point_turn(i, j, k, false)
+    point_turn(p, false)
 }
 
-fn up7(i: i32, j: i32, k: i32, ccw: bool) -> Point
-    ensures { λ r. ⌜ toldPoint r ≡ up7Of ccw (triple i j k) ⌝ }
+fn up7(p: IJK, ccw: bool) -> Point
+    ensures { λ r. ⌜ toldPoint r ≡ up7Of ccw p ⌝ }
 {
-    let a = locate(i, j, k);
-    let Place::Within(p) = a else {
+    let a = locate(p);
+    let Place::Within(at) = a else {
         return Point::Refused(refusal(14));
     };
-    Point::At(ijk::up_aperture7(p, ccw))
+    Point::At(ijk::up_aperture7(at, ccw))
 }
 
-pub fn up7_ccw(i: i32, j: i32, k: i32) -> Point
-    ensures { λ r. ⌜ toldPoint r ≡ up7Of true (triple i j k) ⌝ }
+pub fn up7_ccw(p: IJK) -> Point
+    ensures { λ r. ⌜ toldPoint r ≡ up7Of true p ⌝ }
 {
-    up7(i, j, k, true)
+    up7(p, true)
 }
 
-pub fn up7_cw(i: i32, j: i32, k: i32) -> Point
-    ensures { λ r. ⌜ toldPoint r ≡ up7Of false (triple i j k) ⌝ }
+pub fn up7_cw(p: IJK) -> Point
+    ensures { λ r. ⌜ toldPoint r ≡ up7Of false p ⌝ }
 {
-    up7(i, j, k, false)
+    up7(p, false)
 }
 
-pub fn direction_of(i: i32, j: i32, k: i32) -> Number
-    ensures { λ r. ⌜ toldNumber r ≡ directionOf (triple i j k) ⌝ }
+pub fn direction_of(p: IJK) -> Number
+    ensures { λ r. ⌜ toldNumber r ≡ directionOf p ⌝ }
 {
-    let a = locate(i, j, k);
-    let Place::Within(p) = a else {
+    let a = locate(p);
+    let Place::Within(at) = a else {
         return Number::Refused(refusal(14));
     };
-    let b = ijk::direction_of(p);
+    let b = ijk::direction_of(at);
     let Way::Found(d) = b else {
         return Number::Refused(refusal(16));
     };

@@ -5,7 +5,7 @@ use Prim.Native.Nat.{suc, _+_, _*_, _/_, _≤_}
 use native.Mathlib.Omega.{arith}
 use lib.IntN.{ℤ, pos, negsuc, negℤ, natAbs, _+ℤ_, _-ℤ_, _*ℤ_}
 use Rattle.plane.specs.Points.{nearest}
-use Rattle.plane.proofs.Whole.{pp, np, same, sign, abs-parts, add-parts, neg-parts, mul-parts}
+use Rattle.plane.proofs.Whole.{pp, np, parts-same, sign, abs-parts, add-parts, neg-parts, mul-parts}
 
 -- q is within 3/7 of n/7
 abbrev pub Near : ℤ → ℤ → Type 0
@@ -29,7 +29,7 @@ nearest-near (pos a) = near-parts (pos a) (pos ((a + 3) / 7)) (omega arith)
 nearest-near (negsuc a) = near-parts (negsuc a) (negℤ (pos ((suc a + 3) / 7))) (omega (arith, neg-parts (pos ((suc a + 3) / 7))))
 
 pub nearest-one : (n q : ℤ) → Near n q → q ≡ nearest n
-nearest-one n q h = same q (nearest n) (omega (arith, parts-near n q h, parts-near n (nearest n) (nearest-near n)))
+nearest-one n q h = parts-same q (nearest n) (omega (arith, parts-near n q h, parts-near n (nearest n) (nearest-near n)))
 
 -- 7u and a little
 pub nearest-little : (u e : ℤ) → natAbs e ≤ 3 → u ≡ nearest (pos 7 *ℤ u +ℤ e)

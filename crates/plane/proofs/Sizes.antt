@@ -19,9 +19,7 @@ use Rattle.plane.proofs.Every.{at-le}
 use Rattle.plane.proofs.Whole.{whole, diffs, pp, np, sign, abs-parts, add-parts, neg-parts, mul-parts, lesser-parts}
 use Rattle.plane.proofs.Bounds.{abs-add, abs-sub, abs-mul, abs-lesser, abs-nearest}
 use Rattle.plane.proofs.Pairs.{ij-plus, same-ij, ij-of-ij, of-ij-ij}
-use Rattle.plane.proofs.Normal.{normal-same}
 use Rattle.plane.proofs.Ups.{up-ij, some-way}
-use Rattle.plane.proofs.Centres.{same-under}
 
 -- at least 0, and at most n
 pub record Upto (n : ℕ) (z : ℤ) : Type 0 where
@@ -102,16 +100,18 @@ abbrev pub size : ℕ → ℕ
 size zero = 0
 size (suc r) = 4 * size r + 1
 
-pub centre-normal : (o : Bool) (t : IJK) (d : ℕ) → normal (plus (down7 o (normal t)) (unit d)) ≡ normal (plus (down7 o t) (unit d))
-centre-normal o t d = same-under o (normal t) t d (normal-same t)
-
-pub box-centre : (ds : List ℕ) → Digits ds → Box (size (length ds)) (normal (centre ds))
-box-centre [] h = record { i = record { low = refl; high = omega arith }; j = record { low = refl; high = omega arith }; k = record { low = refl; high = omega arith } }
+pub box-centre : (ds : List ℕ) → Digits ds → Box (size (length ds)) (centre ds)
+box-centre [] h =
+    record {
+      i = record { low = refl; high = omega arith };
+      j = record { low = refl; high = omega arith };
+      k = record { low = refl; high = omega arith };
+    }
 box-centre (d ∷ ds) h =
     let o = odd (suc (length ds)) in
     let n = size (length ds) in
-    subst (λ (t : IJK). Box (4 * n + 1) t) (centre-normal o (centre ds) d)
-    (box-normal (4 * n + 1) (plus (down7 o (normal (centre ds))) (unit d)) (box-unit (4 * n) (down7 o (normal (centre ds))) d (h .0) (box-down o n (normal (centre ds)) (box-centre ds (h .1)))))
+    let q = down7 o (centre ds) in
+    box-normal (4 * n + 1) (plus q (unit d)) (box-unit (4 * n) q d (h .0) (box-down o n (centre ds) (box-centre ds (h .1))))
 
 -- going into the fifteenth step, and after it
 pub size-small : (r : ℕ) → r < 15 → size r ≤ 89478485

@@ -1,4 +1,4 @@
--- Unit vectors: the direction of one is that direction, and no other point has one; the neighbours in directions 1 to 6 are the points at distance 1. Assumes nothing.
+-- The direction of a unit vector is that direction, and a point that is neither one nor zero has none. Assumes nothing.
 use mathlib.Core.Path.{_≡_, refl, sym, ap, ap₂, _∙_, subst}
 use mathlib.Core.Logic.{_↔_, _⊎_, inl, inr, ⊎-elim}
 use mathlib.Core.Bool.{Bool, true, false, cond}
@@ -8,18 +8,15 @@ use lib.Dec.{T}
 use lib.IntN.{ℤ, pos, negsuc}
 use lib.Signed.{leZ}
 use Rattle.plane.specs.Directions.{vec, unit}
-use Rattle.plane.specs.Points.{lesser, greater, least, largest, normal, Same, value, direction-of}
+use Rattle.plane.specs.Points.{lesser, greater, least, largest, normal, Same, value, direction, direction-of}
 use Rattle.plane.specs.declared.ijk.IJK.{IJK}
 use Rattle.plane.specs.declared.direction.Direction.{Direction}
 use Rattle.plane.specs.declared.ijk.Way.{Way}
 use Rattle.plane.specs.declared.ijk.Way.the-variants.{Found, NotUnit}
 use Rattle.plane.proofs.Every.{at, at-eq}
-use Rattle.plane.proofs.Whole.{whole, diffs, pp, np, same as parts-same}
+use Rattle.plane.proofs.Whole.{whole, diffs, pp, np, parts-same}
 use Rattle.plane.proofs.Normal.{normal-least}
 use Rattle.plane.proofs.Pairs.{triple-path}
-
-abbrev pub direction : ℕ → Direction
-direction d = record { 0 = d }
 
 -- at least 0
 np-zero : (x : ℤ) → np x ≤ pp x → np x ≡ 0
@@ -83,12 +80,12 @@ T-true : (b : Bool) → T b → b ≡ true
 T-true true t = refl
 T-true false t = absurd t
 
-pub direction-found : (t : IJK) (d : ℕ) → d < 7 → Same t (unit d) → direction-of t ≡ Found (direction d)
-direction-found t d h s =
+pub found : (t : IJK) (d : ℕ) → d < 7 → Same t (unit d) → direction-of t ≡ Found (direction d)
+found t d h s =
     ap (λ (n : IJK). answer (leZ (largest n) (pos 1)) (value n)) s
     ∙ ap₂ answer (T-true (leZ (largest (normal (unit d))) (pos 1)) (unit-small d h)) (unit-value d h)
 
--- a point has a direction, or is no unit vector
+-- a point has a direction, or has none
 split : (t : IJK) (b : Bool) → leZ (largest (normal t)) (pos 1) ≡ b → ((d : ℕ) × (d < 7) × Same t (unit d)) ⊎ (direction-of t ≡ NotUnit)
 split t true e =
     let n = normal t in
@@ -102,8 +99,22 @@ found-or-not t = split t (leZ (largest (normal t)) (pos 1)) refl
 apart : (w : Way) (d : ℕ) → w ≡ Found (direction d) → w ≡ NotUnit → ⊥
 apart w d p q = let z : _≡_ {A = ℕ} 0 1 = cc in omega arith
 
+alike : (w : Way) (d e : ℕ) → w ≡ Found (direction d) → w ≡ Found (direction e) → d ≡ e
+alike w d e p q = let s : direction d ≡ direction e = cc in ap (λ (x : Direction). x .0) s
+
+pub direction-found : (t : IJK) (d : ℕ) → (direction-of t ≡ Found (direction d)) ↔ ((d < 7) × Same t (unit d))
+direction-found t d = (
+  λ e.
+      ⊎-elim
+      (λ (w : (e : ℕ) × (e < 7) × Same t (unit e)).
+      subst (λ (n : ℕ). (n < 7) × Same t (unit n)) (alike (direction-of t) (w .0) d (found t (w .0) (w .1) (w .2)) e) (w .1, w .2))
+      (λ (n : direction-of t ≡ NotUnit). absurd (apart (direction-of t) d e n))
+      (found-or-not t),
+  λ w. found t d (w .0) (w .1),
+)
+
 pub not-unit : (t : IJK) → (direction-of t ≡ NotUnit) ↔ ((d : ℕ) → d < 7 → Same t (unit d) → ⊥)
 not-unit t = (
-  λ e d h s. apart (direction-of t) d (direction-found t d h s) e,
+  λ e d h s. apart (direction-of t) d (found t d h s) e,
   λ none. ⊎-elim (λ (w : (d : ℕ) × (d < 7) × Same t (unit d)). absurd (none (w .0) (w .1) (w .2))) (λ (e : direction-of t ≡ NotUnit). e) (found-or-not t),
 )

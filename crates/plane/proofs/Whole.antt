@@ -1,5 +1,5 @@
 -- Whole numbers for `omega`. A whole number z is its plus part less its minus part, two naturals that `omega` reads: `pp z`, `np z`.
--- Each operation of `lib.IntN` has one law between the parts, and `same` goes back from the parts to an equation of whole numbers.
+-- Each operation of `lib.IntN` has one law between the parts, and `parts-same` goes back from the parts to an equation of whole numbers.
 -- Assumes nothing.
 use mathlib.Core.Path.{_≡_, refl, sym, ap, _∙_, subst}
 use mathlib.Core.Bool.{Bool, true, false, not, cond}
@@ -22,11 +22,11 @@ np (pos n) = 0
 np (negsuc n) = suc n
 
 -- two numbers are equal where their parts differ by the same
-pub same : (x y : ℤ) → pp x + np y ≡ pp y + np x → x ≡ y
-same (pos m) (pos n) h = ap pos (omega arith)
-same (pos m) (negsuc n) h = absurd (omega arith)
-same (negsuc m) (pos n) h = absurd (omega arith)
-same (negsuc m) (negsuc n) h = ap negsuc (omega arith)
+pub parts-same : (x y : ℤ) → pp x + np y ≡ pp y + np x → x ≡ y
+parts-same (pos m) (pos n) h = ap pos (omega arith)
+parts-same (pos m) (negsuc n) h = absurd (omega arith)
+parts-same (negsuc m) (pos n) h = absurd (omega arith)
+parts-same (negsuc m) (negsuc n) h = ap negsuc (omega arith)
 
 pub parts : (x y : ℤ) → x ≡ y → pp x + np y ≡ pp y + np x
 parts x y e = rw e
@@ -86,7 +86,7 @@ diff a b = subℕ a b
 
 pub whole : (x : ℤ) → diff (pp x) (np x) ≡ x
 unfolding diff
-whole x = same (subℕ (pp x) (np x)) x (omega (arith, sub-parts (pp x) (np x)))
+whole x = parts-same (subℕ (pp x) (np x)) x (omega (arith, sub-parts (pp x) (np x)))
 
 pub diff-parts : (a b : ℕ) → pp (diff a b) + b ≡ np (diff a b) + a
 unfolding diff
@@ -96,7 +96,7 @@ diff-parts a b = sub-parts a b
 pub diff-iff : (a b c d : ℕ) → (diff a b ≡ diff c d) ↔ (a + d ≡ c + b)
 diff-iff a b c d = (
   λ e. omega (arith, parts (diff a b) (diff c d) e, diff-parts a b, diff-parts c d),
-  λ h. same (diff a b) (diff c d) (omega (arith, diff-parts a b, diff-parts c d)),
+  λ h. parts-same (diff a b) (diff c d) (omega (arith, diff-parts a b, diff-parts c d)),
 )
 
 pub diff-le : (a b c d : ℕ) → T (leZ (diff a b) (diff c d)) ↔ (a + d ≤ c + b)
@@ -113,16 +113,16 @@ diff-negsuc n = sym (whole (negsuc n))
 
 pub diff-add : (a b c d : ℕ) → diff a b +ℤ diff c d ≡ diff (a + c) (b + d)
 diff-add a b c d =
-    same (diff a b +ℤ diff c d) (diff (a + c) (b + d))
+    parts-same (diff a b +ℤ diff c d) (diff (a + c) (b + d))
     (omega (arith, add-parts (diff a b) (diff c d), diff-parts a b, diff-parts c d, diff-parts (a + c) (b + d)))
 
 pub diff-neg : (a b : ℕ) → negℤ (diff a b) ≡ diff b a
-diff-neg a b = same (negℤ (diff a b)) (diff b a) (omega (arith, neg-parts (diff a b), diff-parts a b, diff-parts b a))
+diff-neg a b = parts-same (negℤ (diff a b)) (diff b a) (omega (arith, neg-parts (diff a b), diff-parts a b, diff-parts b a))
 
 pub diff-mul : (k a b : ℕ) → diff k 0 *ℤ diff a b ≡ diff (k * a) (k * b)
 diff-mul k a b =
     rw (whole (pos k))
-    (same (pos k *ℤ diff a b) (diff (k * a) (k * b))
+    (parts-same (pos k *ℤ diff a b) (diff (k * a) (k * b))
     (omega (arith, mul-parts k (diff a b), ap (λ (n : ℕ). k * n) (diff-parts a b), diff-parts (k * a) (k * b))))
 
 cond-lesser : (c : Bool) (x y : ℤ) → (T c → pp x + np y ≤ pp y + np x) → (T (not c) → pp y + np x < pp x + np y) → pp (cond c x y) + (np x + np y) ≡ np (cond c x y) + min (pp x + np y) (pp y + np x)
@@ -134,7 +134,7 @@ lesser-parts x y = cond-lesser (leZ x y) x y (le-parts x y) (gt-parts x y)
 
 pub diff-lesser : (a b c d : ℕ) → cond (leZ (diff a b) (diff c d)) (diff a b) (diff c d) ≡ diff (min (a + d) (c + b)) (b + d)
 diff-lesser a b c d =
-    same (lesser (diff a b) (diff c d)) (diff (min (a + d) (c + b)) (b + d))
+    parts-same (lesser (diff a b) (diff c d)) (diff (min (a + d) (c + b)) (b + d))
     (omega (arith, lesser-parts (diff a b) (diff c d), diff-parts a b, diff-parts c d, diff-parts (min (a + d) (c + b)) (b + d)))
 
 cond-greater : (c : Bool) (x y : ℤ) → (T c → pp x + np y ≤ pp y + np x) → (T (not c) → pp y + np x < pp x + np y) → pp (cond c y x) + (np x + np y) ≡ np (cond c y x) + max (pp x + np y) (pp y + np x)
@@ -146,7 +146,7 @@ greater-parts x y = cond-greater (leZ x y) x y (le-parts x y) (gt-parts x y)
 
 pub diff-greater : (a b c d : ℕ) → cond (leZ (diff a b) (diff c d)) (diff c d) (diff a b) ≡ diff (max (a + d) (c + b)) (b + d)
 diff-greater a b c d =
-    same (greater (diff a b) (diff c d)) (diff (max (a + d) (c + b)) (b + d))
+    parts-same (greater (diff a b) (diff c d)) (diff (max (a + d) (c + b)) (b + d))
     (omega (arith, greater-parts (diff a b) (diff c d), diff-parts a b, diff-parts c d, diff-parts (max (a + d) (c + b)) (b + d)))
 
 pub ruleset diffs = (diff-add, diff-neg, diff-mul, diff-pos, diff-negsuc, diff-lesser, diff-greater, diff-iff, diff-le)
@@ -163,9 +163,3 @@ eq-equal x y e = subst (λ (z : ℤ). T (equal x z)) e (self x)
     self : (x : ℤ) → T (equal x x)
     self (pos a) = eqb-refl a
     self (negsuc a) = eqb-refl a
-
--- a number is 7u + m for one u and one m below 7
-pub one-seventh : (u v : ℤ) (m n : ℕ) → m < 7 → n < 7 → pos 7 *ℤ u +ℤ pos m ≡ pos 7 *ℤ v +ℤ pos n → (u ≡ v) × (m ≡ n)
-one-seventh u v m n hm hn e =
-    let h = simp diffs at (rw (← whole u, ← whole v) at e) in
-    (rw (← whole u, ← whole v) (simp diffs (omega arith)), omega arith)

@@ -8,6 +8,7 @@ use lib.Dec.{eqb}
 use Rattle.plane.specs.Directions.{triple, vec}
 use Rattle.plane.specs.declared.ijk.IJK.{IJK}
 use Rattle.plane.specs.declared.ijk.IJ.{IJ}
+use Rattle.plane.specs.declared.direction.Direction.{Direction}
 use Rattle.plane.specs.declared.ijk.Way.{Way}
 use Rattle.plane.specs.declared.ijk.Way.the-variants.{Found, NotUnit}
 
@@ -94,9 +95,12 @@ nearest (negsuc n) = negℤ (pos ((suc n + 3) / 7))
 abbrev pub up7 : Bool → IJK → IJK
 up7 o t = of-ij (pair (nearest (sevenfold o (ij t) .i)) (nearest (sevenfold o (ij t) .j)))
 
--- the direction 4i + 2j + k of a normalised point that is a unit vector or zero; otherwise refusal 16
+-- a normalised point with no component above 1 is a unit vector or zero, and its direction is 4i + 2j + k; any other is refusal 16
 abbrev pub value : IJK → ℕ
 value t = natAbs (pos 4 *ℤ t .i +ℤ (pos 2 *ℤ t .j +ℤ t .k))
 
+abbrev pub direction : ℕ → Direction
+direction d = record { 0 = d }
+
 abbrev pub direction-of : IJK → Way
-direction-of t = cond (leZ (largest (normal t)) (pos 1)) (Found (record { 0 = value (normal t) })) NotUnit
+direction-of t = cond (leZ (largest (normal t)) (pos 1)) (Found (direction (value (normal t)))) NotUnit

@@ -1,14 +1,20 @@
 ghost use mathlib.Core.Path.{_≡_};
-ghost use Prim.Native.Nat.{_+_, _*_, _<_, _≤_};
-ghost use lib.IntN.{pos, natAbs, _+ℤ_, _-ℤ_, _*ℤ_};
+ghost use Prim.Native.Nat.{_<_, _≤_};
+ghost use lib.IntN.{natAbs};
 ghost use mir.Syntax.{w32};
 ghost use mir.Val.{SFits};
-ghost use Rattle.plane.specs.Directions.{triple, unit};
+ghost use Rattle.plane.specs.Directions.{unit};
 ghost use Rattle.plane.specs.Points as points;
-ghost use Rattle.plane.specs.Ranges.{in-range, point-in-range, Within, Broad};
-ghost use Rattle.plane.specs.Inside.{Is, Weighs, weighed, beside};
+ghost use Rattle.plane.specs.Ranges.{point-in-range, Within, Broad};
+ghost use Rattle.plane.specs.Inside.{Weighs, weighed, beside};
 use crate::direction;
 use crate::direction::Direction;
+use crate::number::greater;
+use crate::number::in_range;
+use crate::number::less;
+use crate::number::lesser;
+use crate::number::scaled;
+use crate::number::seventh;
 
 // A point of the plane.
 pub struct IJK {
@@ -29,33 +35,18 @@ pub enum Way {
     NotUnit,
 }
 
-// Whether a coordinate is within the entry range.
-pub fn in_range(n: i32) -> bool
-    ensures { λ r. ⌜ r ≡ in-range n ⌝ }
+// Whether each coordinate is within the entry range.
+pub fn point_in_range(p: IJK) -> bool
+    ensures { λ r. ⌜ r ≡ point-in-range p ⌝ }
 {
-    if n < -100000000 {
-        false
-    } else {
-        n <= 100000000
-    }
-}
-
-// Whether all three are.
-pub fn point_in_range(i: i32, j: i32, k: i32) -> bool
-    ensures { λ r. ⌜ r ≡ point-in-range (triple i j k) ⌝ }
-{
+    let i = p.i;
+    let j = p.j;
+    let k = p.k;
     if in_range(i) {
         if in_range(j) { in_range(k) } else { false }
     } else {
         false
     }
-}
-
-// The lesser of two.
-fn lesser(a: i32, b: i32) -> i32
-    ensures { λ r. ⌜ r ≡ points.lesser a b ⌝ }
-{
-    if a <= b { a } else { b }
 }
 
 // The same point in normal form.
@@ -101,14 +92,6 @@ pub fn same_point(p: IJK, q: IJK) -> bool
     equal(a, b)
 }
 
-// a - b
-fn less(a: i32, b: i32) -> i32
-    requires { ⌜ (natAbs a ≤ 500000000) × (natAbs b ≤ 500000000) ⌝ }
-    ensures { λ r. ⌜ Is (a -ℤ b) 1000000000 r ⌝ }
-{
-    a - b
-}
-
 // The difference of two points, not in normal form.
 pub fn minus(p: IJK, q: IJK) -> IJK
     requires { ⌜ (Within 500000000 p) × (Within 500000000 q) ⌝ }
@@ -125,13 +108,6 @@ pub fn minus(p: IJK, q: IJK) -> IJK
         j: less(b, e),
         k: less(c, f),
     }
-}
-
-// The greater of two.
-fn greater(a: i32, b: i32) -> i32
-    ensures { λ r. ⌜ (r ≡ points.greater a b) × (SFits w32 r) ⌝ }
-{
-    if a <= b { b } else { a }
 }
 
 // The largest component.
@@ -169,14 +145,6 @@ pub fn of_ij(i: i32, j: i32) -> IJK
     ensures { λ r. ⌜ r ≡ points.of-ij (points.pair i j) ⌝ }
 {
     normalize(IJK { i, j, k: 0 })
-}
-
-// a-fold x, and y.
-fn scaled(a: u8, x: i32, y: i32) -> i32
-    requires { ⌜ a * natAbs x + natAbs y ≤ 1000000000 ⌝ }
-    ensures { λ r. ⌜ Is (pos a *ℤ x +ℤ y) 1000000000 r ⌝ }
-{
-    (a as i32) * x + y
 }
 
 // a-fold p, and q.
@@ -241,22 +209,6 @@ pub fn rotate60(p: IJK, ccw: bool) -> IJK
     ensures { λ r. ⌜ r ≡ points.normal (points.turned ccw p) ⌝ }
 {
     image(1, p, !ccw)
-}
-
-// The whole number nearest to a seventh. Division rounds toward zero, so 3 is added away from zero first.
-fn nearest_seventh(n: i32) -> i32
-    requires { ⌜ natAbs n ≤ 1000000000 ⌝ }
-    ensures { λ r. ⌜ Is (points.nearest n) 1000000000 r ⌝ }
-{
-    if n < 0 { (n - 3) / 7 } else { (n + 3) / 7 }
-}
-
-// The whole number nearest to a seventh of a-fold x, and y.
-fn seventh(a: u8, x: i32, y: i32) -> i32
-    requires { ⌜ a * natAbs x + natAbs y ≤ 1000000000 ⌝ }
-    ensures { λ r. ⌜ Is (points.nearest (pos a *ℤ x +ℤ y)) 1000000000 r ⌝ }
-{
-    nearest_seventh(scaled(a, x, y))
 }
 
 // Up by aperture 7.

@@ -1,2 +1,3 @@
 pub mod direction;
 pub mod ijk;
+pub mod number;

@@ -1,60 +1,67 @@
+-- `hex::points::direction_turn` meets its contract. Assumes nothing.
 use borrow.Author.Needs.{needs}
+use borrow.Author.Tests.{lt-ltb, le-ltb}
+use mathlib.Core.Path.{_≡_, sym, ap, _∙_, subst}
+use mathlib.Core.List.{[], _∷_}
+use Prim.Native.Nat.{ℕ, _<_}
+use Rattle.index.specs.Refusals.{answered, refused}
+use Rattle.index.proofs.Rules.{past, hit, none-answered}
+use Rattle.plane.specs.Directions.{turns}
+use Rattle.hex.specs.Points.{countRule}
+use Rattle.hex.proofs.Judges.{to, nowhere, refuse-way}
 use Rattle.hex.proofs.points.direction_turn.Statement.{statement}
 use Rattle.hex.proofs.points.direction_turn.Tie as tie
-use Rattle.hex.proofs.points.direction_turn.Reads as reads
-use Rattle.hex.proofs.points.direction_turn.Lts as lts
-use Rattle.hex.proofs.judge.head.Reads as head-reads
-use Rattle.index.proofs.inside.refusal.Reads as refusal-reads
-use Rattle.plane.proofs.direction.rotate60.Reads as rotate60-reads
-use Rattle.plane.proofs.direction.value.Reads as value-reads
 
--- src/points.rt:34:9
 head-requires : tie.Need-head-requires
 head-requires c κs = search needs
 
--- src/points.rt:35:21
 enum-known-a : tie.Need-enum-known-a
 enum-known-a c = search needs
 
--- src/points.rt:36:32
 enum-told : tie.Need-enum-told
 enum-told c = search needs
 
--- src/points.rt:36:32
 refusal-requires : tie.Need-refusal-requires
 refusal-requires c κs = search needs
 
--- src/points.rt:36:9
-returns : tie.Need-returns
-returns c = ?
-
--- src/points.rt:39:32
 refusal-requires-2 : tie.Need-refusal-requires-2
 refusal-requires-2 c κs = search needs
 
--- src/points.rt:39:9
-returns-2 : tie.Need-returns-2
-returns-2 c = ?
-
--- src/points.rt:41:46
 cast-rotate60 : tie.Need-cast-rotate60
 cast-rotate60 c = search needs
 
--- src/points.rt:41:9
-rotate60-requires : tie.Need-rotate60-requires
-rotate60-requires c κs = ?
-
--- src/points.rt:42:16
 value-requires : tie.Need-value-requires
 value-requires c κs = search needs
 
--- src/points.rt:42:16
 cast-t11 : tie.Need-cast-t11
 cast-t11 c = search needs
 
--- src/points.rt:31:1
+returns : tie.Need-returns
+returns c =
+    let s = c .before .before .before .before .args in
+    let a = c .before .before .before .head in
+    refuse-way (s .direction) (countRule (s .count) ∷ []) _ (turns (s .ccw) (s .count) (s .direction)) (nowhere (s .direction) (a .result) (c .before .before .match .keys2) (a .ensures)) (c .refusal .ensures)
+
+returns-2 : tie.Need-returns-2
+returns-2 c =
+    let s = c .before .before .before .before .before .before .args in
+    let a = c .before .before .before .before .before .head in
+    let h = to (s .direction) (a .result) _ (c .before .before .before .a .given .1) (a .ensures) in
+    ap refused (c .refusal2 .ensures) ∙ sym (past 13 _ (countRule (s .count) ∷ []) (turns (s .ccw) (s .count) (s .direction)) (h .2) ∙ hit _ _ [] _ (lt-ltb _ _ (c .before .if1 .taken)))
+
+rotate60-requires : tie.Need-rotate60-requires
+rotate60-requires c κs =
+    let a = c .before .before .before .before .head in
+    let h = to (c .before .before .before .before .before .args .direction) (a .result) _ (c .before .before .a .given .1) (a .ensures) in
+    subst (λ (x : ℕ). x < 7) (sym (h .0)) (h .1)
+
 returns-3 : tie.Need-returns-3
-returns-3 c = ?
+returns-3 c =
+    let s = c .before .before .before .before .before .before .before .args in
+    let a = c .before .before .before .before .before .before .head in
+    let h = to (s .direction) (a .result) _ (c .before .before .before .before .a .given .1) (a .ensures) in
+    ap answered (c .value .ensures ∙ c .before .rotate60 .ensures ∙ ap (turns (s .ccw) (s .count)) (h .0))
+    ∙ sym (past 13 _ (countRule (s .count) ∷ []) (turns (s .ccw) (s .count) (s .direction)) (h .2) ∙ past _ _ [] _ (le-ltb _ _ (c .before .before .if1 .left)) ∙ none-answered _)
 
 pub direction-turn-spec : {M : Type 1} → statement M
 direction-turn-spec =

@@ -52,8 +52,8 @@ distance-requires : tie.Need-distance-requires
 distance-requires c κs = ?
 
 -- src/points.rt:106:16
-cast-t14 : tie.Need-cast-t14
-cast-t14 c = ?
+cast-t10 : tie.Need-cast-t10
+cast-t10 c = ?
 
 -- src/points.rt:95:1
 returns-3 : tie.Need-returns-3
@@ -74,5 +74,5 @@ distance-spec =
     refusal-requires-2
     returns-2
     distance-requires
-    cast-t14
+    cast-t10
     returns-3)

@@ -7,27 +7,27 @@ use Rattle.hex.proofs.judge.locate.Reads as locate-reads
 use Rattle.index.proofs.inside.refusal.Reads as refusal-reads
 use Rattle.plane.proofs.ijk.of_ij.Reads as of-ij-reads
 
--- src/points.rt:122:9
+-- src/points.rt:124:9
 locate-requires : tie.Need-locate-requires
 locate-requires c κs = search needs
 
--- src/points.rt:123:23
+-- src/points.rt:125:23
 enum-known-a : tie.Need-enum-known-a
 enum-known-a c = search needs
 
--- src/points.rt:124:31
+-- src/points.rt:126:31
 enum-told : tie.Need-enum-told
 enum-told c = search needs
 
--- src/points.rt:124:31
+-- src/points.rt:126:31
 refusal-requires : tie.Need-refusal-requires
 refusal-requires c κs = search needs
 
--- src/points.rt:124:9
+-- src/points.rt:126:9
 returns : tie.Need-returns
 returns c = ?
 
--- src/points.rt:126:15
+-- src/points.rt:128:15
 of-ij-requires : tie.Need-of-ij-requires
 of-ij-requires c κs = ?
 

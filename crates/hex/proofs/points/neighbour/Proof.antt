@@ -1,60 +1,80 @@
+-- `hex::points::neighbour` meets its contract. Assumes nothing.
 use borrow.Author.Needs.{needs}
+use mathlib.Core.Path.{_≡_, sym, ap₂, _∙_, subst}
+use mathlib.Core.List.{[], _∷_}
+use Prim.Native.Nat.{ℕ, _<_}
+use native.Mathlib.Omega.{arith}
+use Rattle.index.proofs.Rules.{past}
+use Rattle.plane.specs.Directions.{unit}
+use Rattle.plane.specs.Points.{normal, plus}
+use Rattle.plane.specs.declared.ijk.IJK.{IJK}
+use Rattle.hex.specs.Points.{rangeRule}
+use Rattle.hex.proofs.Judges.{to, nowhere, within, outside, refuse-way, refuse-point, answer-point, wider}
 use Rattle.hex.proofs.points.neighbour.Statement.{statement}
 use Rattle.hex.proofs.points.neighbour.Tie as tie
-use Rattle.hex.proofs.points.neighbour.Reads as reads
-use Rattle.hex.proofs.points.neighbour.Lts as lts
-use Rattle.hex.proofs.judge.head.Reads as head-reads
-use Rattle.hex.proofs.judge.locate.Reads as locate-reads
-use Rattle.index.proofs.inside.refusal.Reads as refusal-reads
-use Rattle.plane.proofs.ijk.neighbor.Reads as neighbor-reads
 
--- src/points.rt:70:9
 head-requires : tie.Need-head-requires
 head-requires c κs = search needs
 
--- src/points.rt:71:21
 enum-known-a : tie.Need-enum-known-a
 enum-known-a c = search needs
 
--- src/points.rt:72:31
 enum-told : tie.Need-enum-told
 enum-told c = search needs
 
--- src/points.rt:72:31
 refusal-requires : tie.Need-refusal-requires
 refusal-requires c κs = search needs
 
--- src/points.rt:72:9
-returns : tie.Need-returns
-returns c = ?
-
--- src/points.rt:74:9
 locate-requires : tie.Need-locate-requires
 locate-requires c κs = search needs
 
--- src/points.rt:75:23
 enum-known-b : tie.Need-enum-known-b
 enum-known-b c = search needs
 
--- src/points.rt:76:31
 enum-told-2 : tie.Need-enum-told-2
 enum-told-2 c = search needs
 
--- src/points.rt:76:31
 refusal-requires-2 : tie.Need-refusal-requires-2
 refusal-requires-2 c κs = search needs
 
--- src/points.rt:76:9
+moved : IJK → ℕ → IJK
+moved p d = normal (plus p (unit d))
+
+returns : tie.Need-returns
+unfolding moved
+returns c =
+    let s = c .before .before .before .before .args in
+    let a = c .before .before .before .head in
+    refuse-way (s .direction) (rangeRule (s .p) ∷ []) _ (moved (s .p) (s .direction)) (nowhere (s .direction) (a .result) (c .before .before .match .keys2) (a .ensures)) (c .refusal .ensures)
+
 returns-2 : tie.Need-returns-2
-returns-2 c = ?
+unfolding moved
+returns-2 c =
+    let s = c .before .before .before .before .before .before .before .before .args in
+    let a = c .before .before .before .before .before .before .before .head in
+    let b = c .before .before .before .locate in
+    let h = to (s .direction) (a .result) _ (c .before .before .before .before .before .a .given .1) (a .ensures) in
+    refuse-point (s .p) [] _ (moved (s .p) (s .direction)) (outside (s .p) (b .result) (c .before .before .match2 .keys2) (b .ensures)) (c .refusal2 .ensures)
+    ∙ sym (past 13 _ (rangeRule (s .p) ∷ []) _ (h .2))
 
--- src/points.rt:78:15
 neighbor-requires : tie.Need-neighbor-requires
-neighbor-requires c κs = ?
+neighbor-requires c κs =
+    let s = c .before .before .before .before .before .before .before .before .args in
+    let a = c .before .before .before .before .before .before .before .head in
+    let b = c .before .before .before .locate in
+    let h = to (s .direction) (a .result) _ (c .before .before .before .before .before .a .given .1) (a .ensures) in
+    let w = within (s .p) (b .result) _ (c .before .b .given .1) (b .ensures) in
+    (wider _ _ _ (w .0) (w .1) (omega arith), subst (λ (x : ℕ). x < 7) (sym (h .0)) (h .1))
 
--- src/points.rt:67:1
 returns-3 : tie.Need-returns-3
-returns-3 c = ?
+unfolding moved
+returns-3 c =
+    let s = c .before .before .before .before .before .before .before .before .before .args in
+    let a = c .before .before .before .before .before .before .before .before .head in
+    let b = c .before .before .before .before .locate in
+    let h = to (s .direction) (a .result) _ (c .before .before .before .before .before .before .a .given .1) (a .ensures) in
+    let w = within (s .p) (b .result) _ (c .before .before .b .given .1) (b .ensures) in
+    answer-point (s .p) _ _ (w .2) (c .neighbor .ensures ∙ ap₂ moved (w .0) (h .0)) ∙ sym (past 13 _ (rangeRule (s .p) ∷ []) _ (h .2))
 
 pub neighbour-spec : {M : Type 1} → statement M
 neighbour-spec =

@@ -1,59 +1,71 @@
+-- `hex::points::same_point` meets its contract. Assumes nothing.
 use borrow.Author.Needs.{needs}
+use mathlib.Core.Path.{_≡_, sym, ap₂, _∙_}
+use mathlib.Core.List.{[], _∷_}
+use native.Mathlib.Omega.{arith}
+use Rattle.index.proofs.Rules.{past}
+use Rattle.plane.specs.Points.{same}
+use Rattle.hex.specs.Points.{rangeRule}
+use Rattle.hex.proofs.Judges.{within, outside, refuse-point, answer-point, wider}
 use Rattle.hex.proofs.points.same_point.Statement.{statement}
 use Rattle.hex.proofs.points.same_point.Tie as tie
-use Rattle.hex.proofs.points.same_point.Reads as reads
-use Rattle.hex.proofs.points.same_point.Lts as lts
-use Rattle.hex.proofs.judge.locate.Reads as locate-reads
-use Rattle.index.proofs.inside.refusal.Reads as refusal-reads
-use Rattle.plane.proofs.ijk.same_point.Reads as same-point-reads
 
--- src/points.rt:84:9
 locate-requires : tie.Need-locate-requires
 locate-requires c κs = search needs
 
--- src/points.rt:85:23
 enum-known-a : tie.Need-enum-known-a
 enum-known-a c = search needs
 
--- src/points.rt:86:31
 enum-told : tie.Need-enum-told
 enum-told c = search needs
 
--- src/points.rt:86:31
 refusal-requires : tie.Need-refusal-requires
 refusal-requires c κs = search needs
 
--- src/points.rt:86:9
-returns : tie.Need-returns
-returns c = ?
-
--- src/points.rt:88:9
 locate-requires-2 : tie.Need-locate-requires-2
 locate-requires-2 c κs = search needs
 
--- src/points.rt:89:23
 enum-known-b : tie.Need-enum-known-b
 enum-known-b c = search needs
 
--- src/points.rt:90:31
 enum-told-2 : tie.Need-enum-told-2
 enum-told-2 c = search needs
 
--- src/points.rt:90:31
 refusal-requires-2 : tie.Need-refusal-requires-2
 refusal-requires-2 c κs = search needs
 
--- src/points.rt:90:9
+returns : tie.Need-returns
+returns c =
+    let s = c .before .before .before .before .args in
+    let a = c .before .before .before .locate in
+    refuse-point (s .p) (rangeRule (s .q) ∷ []) _ (same (s .p) (s .q)) (outside (s .p) (a .result) (c .before .before .match .keys2) (a .ensures)) (c .refusal .ensures)
+
 returns-2 : tie.Need-returns-2
-returns-2 c = ?
+returns-2 c =
+    let s = c .before .before .before .before .before .before .before .before .args in
+    let a = c .before .before .before .before .before .before .before .locate in
+    let b = c .before .before .before .locate2 in
+    let v = within (s .p) (a .result) _ (c .before .before .before .before .before .a .given .1) (a .ensures) in
+    refuse-point (s .q) [] _ (same (s .p) (s .q)) (outside (s .q) (b .result) (c .before .before .match2 .keys2) (b .ensures)) (c .refusal2 .ensures)
+    ∙ sym (past 14 _ (rangeRule (s .q) ∷ []) _ (v .2))
 
--- src/points.rt:92:15
 same-point-requires : tie.Need-same-point-requires
-same-point-requires c κs = ?
+same-point-requires c κs =
+    let s = c .before .before .before .before .before .before .before .before .args in
+    let a = c .before .before .before .before .before .before .before .locate in
+    let b = c .before .before .before .locate2 in
+    let v = within (s .p) (a .result) _ (c .before .before .before .before .before .a .given .1) (a .ensures) in
+    let w = within (s .q) (b .result) _ (c .before .b .given .1) (b .ensures) in
+    (wider _ _ _ (v .0) (v .1) (omega arith), wider _ _ _ (w .0) (w .1) (omega arith))
 
--- src/points.rt:81:1
 returns-3 : tie.Need-returns-3
-returns-3 c = ?
+returns-3 c =
+    let s = c .before .before .before .before .before .before .before .before .before .args in
+    let a = c .before .before .before .before .before .before .before .before .locate in
+    let b = c .before .before .before .before .locate2 in
+    let v = within (s .p) (a .result) _ (c .before .before .before .before .before .before .a .given .1) (a .ensures) in
+    let w = within (s .q) (b .result) _ (c .before .before .b .given .1) (b .ensures) in
+    answer-point (s .q) _ _ (w .2) (c .same-point .ensures ∙ ap₂ same (v .0) (w .0)) ∙ sym (past 14 _ (rangeRule (s .q) ∷ []) _ (v .2))
 
 pub same-point-spec : {M : Type 1} → statement M
 same-point-spec =

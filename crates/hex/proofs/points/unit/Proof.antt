@@ -1,39 +1,45 @@
+-- `hex::points::unit` meets its contract. Assumes nothing.
 use borrow.Author.Needs.{needs}
+use mathlib.Core.Path.{_≡_, sym, ap, _∙_, subst}
+use mathlib.Core.List.{[]}
+use Prim.Native.Nat.{ℕ, _<_}
+use Rattle.index.specs.Refusals.{answered}
+use Rattle.index.proofs.Rules.{past, none-answered}
+use Rattle.plane.specs.Directions.{unit}
+use Rattle.hex.proofs.Judges.{to, nowhere, refuse-way}
 use Rattle.hex.proofs.points.unit.Statement.{statement}
 use Rattle.hex.proofs.points.unit.Tie as tie
-use Rattle.hex.proofs.points.unit.Reads as reads
-use Rattle.hex.proofs.points.unit.Lts as lts
-use Rattle.hex.proofs.judge.head.Reads as head-reads
-use Rattle.index.proofs.inside.refusal.Reads as refusal-reads
-use Rattle.plane.proofs.direction.coordinate.Reads as coordinate-reads
 
--- src/points.rt:24:9
 head-requires : tie.Need-head-requires
 head-requires c κs = search needs
 
--- src/points.rt:25:21
 enum-known-a : tie.Need-enum-known-a
 enum-known-a c = search needs
 
--- src/points.rt:26:31
 enum-told : tie.Need-enum-told
 enum-told c = search needs
 
--- src/points.rt:26:31
 refusal-requires : tie.Need-refusal-requires
 refusal-requires c κs = search needs
 
--- src/points.rt:26:9
 returns : tie.Need-returns
-returns c = ?
+returns c =
+    let s = c .before .before .before .before in
+    let a = c .before .before .before .head in
+    refuse-way (s .args .direction) [] _ (unit (s .args .direction)) (nowhere (s .args .direction) (a .result) (c .before .before .match .keys2) (a .ensures)) (c .refusal .ensures)
 
--- src/points.rt:28:15
 coordinate-requires : tie.Need-coordinate-requires
-coordinate-requires c κs = ?
+coordinate-requires c κs =
+    let a = c .before .before .before .head in
+    let w = to (c .before .before .before .before .args .direction) (a .result) _ (c .before .a .given .1) (a .ensures) in
+    subst (λ (x : ℕ). x < 7) (sym (w .0)) (w .1)
 
--- src/points.rt:21:1
 returns-2 : tie.Need-returns-2
-returns-2 c = ?
+returns-2 c =
+    let d : ℕ = c .before .before .before .before .before .args .direction in
+    let a = c .before .before .before .before .head in
+    let w = to d (a .result) _ (c .before .before .a .given .1) (a .ensures) in
+    ap answered (c .coordinate .ensures ∙ ap unit (w .0)) ∙ sym (past 13 _ [] (unit d) (w .2) ∙ none-answered _)
 
 pub unit-spec : {M : Type 1} → statement M
 unit-spec =

@@ -8,7 +8,7 @@ use lib.IntN.{ℤ, pos}
 use lib.Signed.{leZ}
 use mir.Facts.{toZ-ofZ}
 use Rattle.plane.specs.Directions.{unit}
-use Rattle.plane.specs.Points.{normal, largest, value}
+use Rattle.plane.specs.Points.{normal, largest, value, direction}
 use Rattle.plane.specs.declared.ijk.IJK.{IJK}
 use Rattle.plane.specs.declared.ijk.Way.the-variants.{Found, NotUnit}
 use Rattle.plane.proofs.Normal.{normal-least}
@@ -40,15 +40,15 @@ returns c =
     let p = t .before .before .before .args .p in
     let n = t .before .before .normalize in
     let l = t .before .largest .ensures in
-    ap (λ (v : ℕ). Found (record { 0 = v })) (c .direction-of-unit .ensures ∙ ap value (n .ensures))
-    ∙ ap (λ (b : Bool). cond b (Found (record { 0 = value (normal p) })) NotUnit) (sym (tested p (n .result) (t .before .largest .result) true (n .ensures) (l .0) (simp (toZ-ofZ, l .1) at (t .if1 .taken))))
+    ap (λ (v : ℕ). Found (direction v)) (c .direction-of-unit .ensures ∙ ap value (n .ensures))
+    ∙ ap (λ (b : Bool). cond b (Found (direction (value (normal p)))) NotUnit) (sym (tested p (n .result) (t .before .largest .result) true (n .ensures) (l .0) (simp (toZ-ofZ, l .1) at (t .if1 .taken))))
 
 returns-2 : tie.Need-returns-2
 returns-2 c =
     let p = c .before .before .before .args .p in
     let n = c .before .before .normalize in
     let l = c .before .largest .ensures in
-    ap (λ (b : Bool). cond b (Found (record { 0 = value (normal p) })) NotUnit) (sym (tested p (n .result) (c .before .largest .result) false (n .ensures) (l .0) (simp (toZ-ofZ, l .1) at (c .if1 .left))))
+    ap (λ (b : Bool). cond b (Found (direction (value (normal p)))) NotUnit) (sym (tested p (n .result) (c .before .largest .result) false (n .ensures) (l .0) (simp (toZ-ofZ, l .1) at (c .if1 .left))))
 
 pub direction-of-spec : {M : Type 1} → statement M
 direction-of-spec =

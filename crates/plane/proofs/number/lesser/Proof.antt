@@ -1,7 +1,7 @@
--- `plane::ijk::lesser` meets its contract. Each parameter is read back from its bits, which `toZ-ofZ` undoes. Assumes nothing.
+-- `plane::number::lesser` meets its contract. Each parameter is read back from its bits, which `toZ-ofZ` undoes. Assumes nothing.
 use mir.Facts.{toZ-ofZ}
-use Rattle.plane.proofs.ijk.lesser.Statement.{statement}
-use Rattle.plane.proofs.ijk.lesser.Tie as tie
+use Rattle.plane.proofs.number.lesser.Statement.{statement}
+use Rattle.plane.proofs.number.lesser.Tie as tie
 
 returns : tie.Need-returns
 returns c =

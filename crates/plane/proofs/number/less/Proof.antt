@@ -1,4 +1,4 @@
--- `plane::ijk::less` meets its contract. Assumes nothing.
+-- `plane::number::less` meets its contract. Assumes nothing.
 use mathlib.Core.Path.{refl}
 use native.Mathlib.Omega.{arith}
 use lib.IntN.{_-ℤ_}
@@ -6,8 +6,8 @@ use mir.Syntax.{w32}
 use mir.Val.{SFits}
 use mir.Facts.{toZ-ofZ}
 use Rattle.plane.proofs.Bounds.{fits, abs-sub}
-use Rattle.plane.proofs.ijk.less.Statement.{statement}
-use Rattle.plane.proofs.ijk.less.Tie as tie
+use Rattle.plane.proofs.number.less.Statement.{statement}
+use Rattle.plane.proofs.number.less.Tie as tie
 
 sub : (c : tie.Start) → SFits w32 (c .args .a -ℤ c .args .b)
 sub c = fits (c .args .a -ℤ c .args .b) (omega (arith, abs-sub (c .args .a) (c .args .b)))

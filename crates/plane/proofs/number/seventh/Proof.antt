@@ -1,11 +1,11 @@
--- `plane::ijk::seventh` meets its contract. Assumes nothing.
+-- `plane::number::seventh` meets its contract. Assumes nothing.
 use mathlib.Core.Path.{ap, _∙_}
 use borrow.Author.Needs.{needs}
 use mir.Facts.{toZ-ofZ}
 use Rattle.plane.specs.Points.{nearest}
 use Rattle.plane.proofs.Bounds.{scaled-read}
-use Rattle.plane.proofs.ijk.seventh.Statement.{statement}
-use Rattle.plane.proofs.ijk.seventh.Tie as tie
+use Rattle.plane.proofs.number.seventh.Statement.{statement}
+use Rattle.plane.proofs.number.seventh.Tie as tie
 
 scaled-requires : tie.Need-scaled-requires
 scaled-requires c κs = search needs

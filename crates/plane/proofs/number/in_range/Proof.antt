@@ -1,4 +1,4 @@
--- `plane::ijk::in_range` meets its contract. Assumes nothing.
+-- `plane::number::in_range` meets its contract. Assumes nothing.
 use mathlib.Core.Path.{_≡_, refl, sym}
 use mathlib.Core.Bool.{true, false}
 use Prim.Native.Nat.{suc}
@@ -8,8 +8,8 @@ use lib.IntN.{ℤ, pos, negsuc, natAbs}
 use lib.Signed.{ltZ, leZ}
 use borrow.Author.Tests.{ltb-true, ltb-false, le-leb, lt-leb}
 use mir.Facts.{toZ-ofZ}
-use Rattle.plane.proofs.ijk.in_range.Statement.{statement}
-use Rattle.plane.proofs.ijk.in_range.Tie as tie
+use Rattle.plane.proofs.number.in_range.Statement.{statement}
+use Rattle.plane.proofs.number.in_range.Tie as tie
 
 low : (n : ℤ) → ltZ n (negsuc 99999999) ≡ true → false ≡ leb (natAbs n) 100000000
 low (pos a) t = cc

@@ -1,8 +1,8 @@
--- `plane::ijk::greater` meets its contract. Each parameter is read back from its bits, which `toZ-ofZ` undoes. Assumes nothing.
+-- `plane::number::greater` meets its contract. Each parameter is read back from its bits, which `toZ-ofZ` undoes. Assumes nothing.
 use mathlib.Core.Path.{refl}
 use mir.Facts.{toZ-ofZ}
-use Rattle.plane.proofs.ijk.greater.Statement.{statement}
-use Rattle.plane.proofs.ijk.greater.Tie as tie
+use Rattle.plane.proofs.number.greater.Statement.{statement}
+use Rattle.plane.proofs.number.greater.Tie as tie
 
 returns : tie.Need-returns
 returns c =

@@ -1,4 +1,4 @@
--- `plane::ijk::nearest_seventh` meets its contract. The quotient rounds toward zero, so 3 away from zero first gives the nearest. Assumes nothing.
+-- `plane::number::nearest_seventh` meets its contract. The quotient rounds toward zero, so 3 away from zero first gives the nearest. Assumes nothing.
 use mathlib.Core.Path.{_≡_, refl, ap}
 use mathlib.Core.Bool.{true, false}
 use Prim.Native.Nat.{ℕ, suc, _+_, _/_, _≤_}
@@ -12,8 +12,8 @@ use mir.Val.{SFits}
 use mir.Facts.{toZ-ofZ}
 use Rattle.plane.specs.Points.{nearest}
 use Rattle.plane.proofs.Bounds.{fits, abs-add, abs-sub, abs-nearest}
-use Rattle.plane.proofs.ijk.nearest_seventh.Statement.{statement}
-use Rattle.plane.proofs.ijk.nearest_seventh.Tie as tie
+use Rattle.plane.proofs.number.nearest_seventh.Statement.{statement}
+use Rattle.plane.proofs.number.nearest_seventh.Tie as tie
 
 below : (n : ℤ) → ltZ n (pos 0) ≡ true → quotZ (n -ℤ pos 3) (pos 7) ≡ nearest n
 below (pos a) t = absurd (omega (arith, ltb-true a 0 t))

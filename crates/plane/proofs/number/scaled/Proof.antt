@@ -1,4 +1,4 @@
--- `plane::ijk::scaled` meets its contract. Assumes nothing.
+-- `plane::number::scaled` meets its contract. Assumes nothing.
 use mathlib.Core.Path.{_≡_, refl}
 use Prim.Native.Nat.{_≤_}
 use native.Mathlib.Omega.{arith}
@@ -8,8 +8,8 @@ use mir.Syntax.{w32}
 use mir.Val.{SFits, toZ}
 use mir.Facts.{toZ-ofZ, toZ-pos}
 use Rattle.plane.proofs.Bounds.{fits, abs-add, abs-mul}
-use Rattle.plane.proofs.ijk.scaled.Statement.{statement}
-use Rattle.plane.proofs.ijk.scaled.Tie as tie
+use Rattle.plane.proofs.number.scaled.Statement.{statement}
+use Rattle.plane.proofs.number.scaled.Tie as tie
 
 factor : (c : tie.Start) → toZ w32 (c .args .a) ≡ pos (c .args .a)
 factor c = toZ-pos w32 (omega arith)
