@@ -60,6 +60,9 @@ pointTurnOf ccw t = judged (rangeRule t ∷ []) (points.normal (points.turned cc
 abbrev pub up7Of : Bool → IJK → Outcome IJK
 up7Of ccw t = judged (rangeRule t ∷ []) (points.up7 ccw t)
 
--- refusal 16: the normalised point is not a unit vector or zero
+-- the normalised point is not a unit vector or zero
+abbrev pub unitRule : IJK → Rule
+unitRule t = 16 when not (leZ (points.largest (points.normal t)) (pos 1))
+
 abbrev pub directionOf : IJK → Outcome ℕ
-directionOf t = judged (rangeRule t ∷ (16 when not (leZ (points.largest (points.normal t)) (pos 1))) ∷ []) (points.value (points.normal t))
+directionOf t = judged (rangeRule t ∷ unitRule t ∷ []) (points.value (points.normal t))

@@ -23,6 +23,9 @@ module _ {A : Type 0} where
   pub refused-inj : {j k : ℕ} → _≡_ {A = Outcome A} (refused j) (refused k) → j ≡ k
   refused-inj e = cc
 
+  pub answered-inj : {a b : A} → _≡_ {A = Outcome A} (answered a) (answered b) → a ≡ b
+  answered-inj e = cc
+
   pub never : {a : A} {k : ℕ} → _≡_ {A = Outcome A} (answered a) (refused k) → ⊥
   never e = let z : _≡_ {A = ℕ} 0 1 = cc in omega arith
 

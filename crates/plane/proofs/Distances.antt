@@ -62,6 +62,12 @@ module _ (a b c : ℤ) where
 opposite : (a b : ℤ) → a -ℤ b ≡ negℤ (b -ℤ a)
 opposite a b = rw (← whole a, ← whole b) (simp diffs (omega arith))
 
+reach-law : (a b c : ℤ) → T (leZ (pos 0) (greater a (greater b c) -ℤ lesser a (lesser b c)))
+reach-law a b c = rw (← whole a, ← whole b, ← whole c) (simp diffs (omega arith))
+
+pub distance-least : (s t : IJK) → T (leZ (pos 0) (distance s t))
+distance-least s t = rw (span (minus s t)) (reach-law (s .i -ℤ t .i) (s .j -ℤ t .j) (s .k -ℤ t .k))
+
 pub distance-sym : (s t : IJK) → distance s t ≡ distance t s
 distance-sym s t =
     let d = minus t s in

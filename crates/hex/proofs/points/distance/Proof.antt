@@ -1,63 +1,96 @@
+-- `hex::points::distance` meets its contract. Assumes nothing.
 use borrow.Author.Needs.{needs}
+use mathlib.Core.Path.{_≡_, sym, ap, ap₂, _∙_, subst}
+use mathlib.Core.List.{[], _∷_}
+use Prim.Native.Nat.{ℕ, _<_, _^_}
+use native.Mathlib.Omega.{arith}
+use lib.Dec.{T}
+use lib.IntN.{ℤ, pos, negsuc, natAbs}
+use lib.Signed.{leZ, nonNeg}
+use mir.Syntax.{w32, w64}
+use mir.Val.{SFits, Fits}
+use mir.Facts.{toZ-ofZ}
+use Rattle.index.proofs.Rules.{past}
+use Rattle.plane.specs.Points.{distance}
+use Rattle.plane.proofs.Distances.{distance-least}
+use Rattle.plane.proofs.Bounds.{rd}
+use Rattle.hex.specs.Points.{rangeRule}
+use Rattle.hex.proofs.Judges.{within, outside, refuse-point, answer-point, wider}
 use Rattle.hex.proofs.points.distance.Statement.{statement}
 use Rattle.hex.proofs.points.distance.Tie as tie
-use Rattle.hex.proofs.points.distance.Reads as reads
-use Rattle.hex.proofs.points.distance.Lts as lts
-use Rattle.hex.proofs.judge.locate.Reads as locate-reads
-use Rattle.index.proofs.inside.refusal.Reads as refusal-reads
-use Rattle.plane.proofs.ijk.distance.Reads as distance-reads
 
--- src/points.rt:98:9
 locate-requires : tie.Need-locate-requires
 locate-requires c κs = search needs
 
--- src/points.rt:99:23
 enum-known-a : tie.Need-enum-known-a
 enum-known-a c = search needs
 
--- src/points.rt:100:32
 enum-told : tie.Need-enum-told
 enum-told c = search needs
 
--- src/points.rt:100:32
 refusal-requires : tie.Need-refusal-requires
 refusal-requires c κs = search needs
 
--- src/points.rt:100:9
-returns : tie.Need-returns
-returns c = ?
-
--- src/points.rt:102:9
 locate-requires-2 : tie.Need-locate-requires-2
 locate-requires-2 c κs = search needs
 
--- src/points.rt:103:23
 enum-known-b : tie.Need-enum-known-b
 enum-known-b c = search needs
 
--- src/points.rt:104:32
 enum-told-2 : tie.Need-enum-told-2
 enum-told-2 c = search needs
 
--- src/points.rt:104:32
 refusal-requires-2 : tie.Need-refusal-requires-2
 refusal-requires-2 c κs = search needs
 
--- src/points.rt:104:9
+returns : tie.Need-returns
+returns c =
+    let s = c .before .before .before .before .args in
+    let a = c .before .before .before .locate in
+    refuse-point (s .p) (rangeRule (s .q) ∷ []) _ (natAbs (distance (s .p) (s .q))) (outside (s .p) (a .result) (c .before .before .match .keys2) (a .ensures)) (c .refusal .ensures)
+
 returns-2 : tie.Need-returns-2
-returns-2 c = ?
+returns-2 c =
+    let s = c .before .before .before .before .before .before .before .before .args in
+    let a = c .before .before .before .before .before .before .before .locate in
+    let b = c .before .before .before .locate2 in
+    let v = within (s .p) (a .result) _ (c .before .before .before .before .before .a .given .1) (a .ensures) in
+    refuse-point (s .q) [] _ (natAbs (distance (s .p) (s .q))) (outside (s .q) (b .result) (c .before .before .match2 .keys2) (b .ensures)) (c .refusal2 .ensures)
+    ∙ sym (past 14 _ (rangeRule (s .q) ∷ []) _ (v .2))
 
--- src/points.rt:106:16
 distance-requires : tie.Need-distance-requires
-distance-requires c κs = ?
+distance-requires c κs =
+    let s = c .before .before .before .before .before .before .before .before .args in
+    let a = c .before .before .before .before .before .before .before .locate in
+    let b = c .before .before .before .locate2 in
+    let v = within (s .p) (a .result) _ (c .before .before .before .before .before .a .given .1) (a .ensures) in
+    let w = within (s .q) (b .result) _ (c .before .b .given .1) (b .ensures) in
+    (wider _ _ _ (v .0) (v .1) (omega arith), wider _ _ _ (w .0) (w .1) (omega arith))
 
--- src/points.rt:106:16
+-- a number that is at least 0 is cast to its size
+natural : (z r : ℤ) → SFits w32 r → r ≡ z → T (leZ (pos 0) z) → T (nonNeg (rd r)) × Fits w64 (natAbs (rd r))
+natural z r f e h = subst (λ (y : ℤ). T (nonNeg y) × Fits w64 (natAbs y)) (sym (toZ-ofZ f ∙ e)) (least z h, record { fits = small z (subst (SFits w32) e f) })
+  where
+    least : (y : ℤ) → T (leZ (pos 0) y) → T (nonNeg y)
+    least (pos n) t = tt
+    least (negsuc n) t = absurd t
+
+    small : (y : ℤ) → SFits w32 y → natAbs y < 2 ^ 64
+    small (pos n) g = omega (arith, g .sfits)
+    small (negsuc n) g = omega (arith, g .sfits)
+
 cast-t10 : tie.Need-cast-t10
-cast-t10 c = ?
+cast-t10 c = natural _ _ (record { sfits = c .distance .ok }) (c .distance .ensures) (distance-least (c .before .before .before .before .before .before .a .given .0 .0) (c .before .before .b .given .0 .0))
 
--- src/points.rt:95:1
 returns-3 : tie.Need-returns-3
-returns-3 c = ?
+returns-3 c =
+    let s = c .before .before .before .before .before .before .before .before .before .args in
+    let a = c .before .before .before .before .before .before .before .before .locate in
+    let b = c .before .before .before .before .locate2 in
+    let v = within (s .p) (a .result) _ (c .before .before .before .before .before .before .a .given .1) (a .ensures) in
+    let w = within (s .q) (b .result) _ (c .before .before .b .given .1) (b .ensures) in
+    let f : SFits w32 (c .distance .result) = record { sfits = c .distance .ok } in
+    answer-point (s .q) _ _ (w .2) (ap natAbs (toZ-ofZ f ∙ c .distance .ensures ∙ ap₂ distance (v .0) (w .0))) ∙ sym (past 14 _ (rangeRule (s .q) ∷ []) _ (v .2))
 
 pub distance-spec : {M : Type 1} → statement M
 distance-spec =
