@@ -3,6 +3,7 @@ ghost use Prim.Native.Nat.{_≤_};
 use crate::out::Buffer;
 use crate::out::Out;
 use crate::say;
+use hex::IJ;
 use hex::IJK;
 use words::Line;
 use words::Signed;
@@ -54,7 +55,7 @@ fn neighbour(buf: &mut Buffer, o: Out, line: Line) -> Out {
     let Small::Value(d) = line.natural32(4) else {
         return say::malformed(buf, o);
     };
-    say::point(buf, o, hex::neighbour(p.i, p.j, p.k, d))
+    say::point(buf, o, hex::neighbour(p, d))
 }
 
 fn from_ij(buf: &mut Buffer, o: Out, line: Line) -> Out {
@@ -64,7 +65,7 @@ fn from_ij(buf: &mut Buffer, o: Out, line: Line) -> Out {
     let Signed::Value(j) = line.integer32(2) else {
         return say::malformed(buf, o);
     };
-    say::point(buf, o, hex::from_ij(i, j))
+    say::point(buf, o, hex::from_ij(IJ { i, j }))
 }
 
 // Requests of one point that have no sense of turning.
@@ -73,13 +74,13 @@ fn of_one(buf: &mut Buffer, o: Out, line: Line) -> Out {
         return turning(buf, o, line);
     };
     if line.is(b"normalise ", 4) {
-        return say::point(buf, o, hex::normalise(p.i, p.j, p.k));
+        return say::point(buf, o, hex::normalise(p));
     }
     if line.is(b"ij ", 4) {
-        return say::pair(buf, o, hex::to_ij(p.i, p.j, p.k));
+        return say::pair(buf, o, hex::to_ij(p));
     }
     if line.is(b"dirof ", 4) {
-        return say::number(buf, o, hex::direction_of(p.i, p.j, p.k));
+        return say::number(buf, o, hex::direction_of(p));
     }
     of_two(buf, o, line, p)
 }
@@ -89,10 +90,10 @@ fn of_two(buf: &mut Buffer, o: Out, line: Line, p: IJK) -> Out {
         return say::malformed(buf, o);
     };
     if line.is(b"same ", 7) {
-        return say::truth(buf, o, hex::same_point(p.i, p.j, p.k, q.i, q.j, q.k));
+        return say::truth(buf, o, hex::same_point(p, q));
     }
     if line.is(b"distance ", 7) {
-        return say::number(buf, o, hex::distance(p.i, p.j, p.k, q.i, q.j, q.k));
+        return say::number(buf, o, hex::distance(p, q));
     }
     say::malformed(buf, o)
 }
@@ -103,28 +104,28 @@ fn turning(buf: &mut Buffer, o: Out, line: Line) -> Out {
         return say::malformed(buf, o);
     };
     if line.is(b"down7 ccw ", 5) {
-        return say::point(buf, o, hex::down7_ccw(p.i, p.j, p.k));
+        return say::point(buf, o, hex::down7_ccw(p));
     }
     if line.is(b"down7 cw ", 5) {
-        return say::point(buf, o, hex::down7_cw(p.i, p.j, p.k));
+        return say::point(buf, o, hex::down7_cw(p));
     }
     if line.is(b"down3 ccw ", 5) {
-        return say::point(buf, o, hex::down3_ccw(p.i, p.j, p.k));
+        return say::point(buf, o, hex::down3_ccw(p));
     }
     if line.is(b"down3 cw ", 5) {
-        return say::point(buf, o, hex::down3_cw(p.i, p.j, p.k));
+        return say::point(buf, o, hex::down3_cw(p));
     }
     if line.is(b"up7 ccw ", 5) {
-        return say::point(buf, o, hex::up7_ccw(p.i, p.j, p.k));
+        return say::point(buf, o, hex::up7_ccw(p));
     }
     if line.is(b"up7 cw ", 5) {
-        return say::point(buf, o, hex::up7_cw(p.i, p.j, p.k));
+        return say::point(buf, o, hex::up7_cw(p));
     }
     if line.is(b"turnpoint ccw ", 5) {
-        return say::point(buf, o, hex::point_turn_ccw(p.i, p.j, p.k));
+        return say::point(buf, o, hex::point_turn_ccw(p));
     }
     if line.is(b"turnpoint cw ", 5) {
-        return say::point(buf, o, hex::point_turn_cw(p.i, p.j, p.k));
+        return say::point(buf, o, hex::point_turn_cw(p));
     }
     say::malformed(buf, o)
 }

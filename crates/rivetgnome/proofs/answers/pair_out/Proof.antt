@@ -2,8 +2,8 @@ use borrow.Author.Needs.{needs}
 use mathlib.Core.Path.{ap}
 use Prim.Native.Nat.{ℕ}
 use Rattle.index.specs.Refusals.{answered, refused}
-use Rattle.plane.specs.Points.{pair}
-use Rattle.rivetgnome.proofs.Fields.{read}
+use Rattle.plane.specs.declared.ijk.IJ.{IJ}
+use Rattle.rivetgnome.proofs.Fields.{fits, pair-read}
 use Rattle.rivetgnome.specs.Exports.{pairOut}
 use Rattle.rivetgnome.proofs.answers.pair_out.Statement.{statement}
 use Rattle.rivetgnome.proofs.answers.pair_out.Tie as tie
@@ -21,7 +21,7 @@ returns : tie.Need-returns
 returns c =
     let p = c .before .before .a .given .0 .0 in
     let f = c .struct-told .given in
-    rw (c .before .before .a .given .1) (λ x. pairOut (answered (pair (read (p .i) (f .0 .1) x) (read (p .j) (f .1 .0 .1) x))))
+    rw (c .before .before .a .given .1) (ap (λ (t : IJ). pairOut (answered t)) (pair-read (p .i) (p .j) (fits (p .i) (f .0 .1)) (fits (p .j) (f .1 .0 .1))))
 
 returns-2 : tie.Need-returns-2
 returns-2 c = rw (c .before .before .a2 .given .1) (ap (λ (k : ℕ). pairOut (refused k)) (c .number .ensures))

@@ -2,8 +2,8 @@ use borrow.Author.Needs.{needs}
 use mathlib.Core.Path.{ap}
 use Prim.Native.Nat.{ℕ}
 use Rattle.index.specs.Refusals.{answered, refused}
-use Rattle.plane.specs.Directions.{triple}
-use Rattle.rivetgnome.proofs.Fields.{read}
+use Rattle.plane.specs.declared.ijk.IJK.{IJK}
+use Rattle.rivetgnome.proofs.Fields.{fits, point-read}
 use Rattle.rivetgnome.specs.Exports.{pointOut}
 use Rattle.rivetgnome.proofs.answers.point_out.Statement.{statement}
 use Rattle.rivetgnome.proofs.answers.point_out.Tie as tie
@@ -21,7 +21,7 @@ returns : tie.Need-returns
 returns c =
     let p = c .before .before .a .given .0 .0 in
     let f = c .struct-told .given in
-    rw (c .before .before .a .given .1) (λ x. pointOut (answered (triple (read (p .i) (f .0 .1) x) (read (p .j) (f .1 .0 .1) x) (read (p .k) (f .1 .1 .0 .1) x))))
+    rw (c .before .before .a .given .1) (ap (λ (t : IJK). pointOut (answered t)) (point-read (p .i) (p .j) (p .k) (fits (p .i) (f .0 .1)) (fits (p .j) (f .1 .0 .1)) (fits (p .k) (f .1 .1 .0 .1))))
 
 returns-2 : tie.Need-returns-2
 returns-2 c = rw (c .before .before .a2 .given .1) (ap (λ (k : ℕ). pointOut (refused k)) (c .number .ensures))
