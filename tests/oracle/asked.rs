@@ -71,7 +71,7 @@ const SMALL: [i64; 7] = [-3, -2, -1, 0, 1, 2, 3];
 /// Numbers of 32 bits that look small in 8 or 16, and the ends.
 const NUMBERS: [i64; 8] = [255, 256, 257, 262, 65536, 65537, 1 << 31, u32::MAX as i64];
 
-/// `n` coordinates of one family, the third and sixth often equal to others.
+/// `n` coordinates of one family, often two of them equal; of two points, often two names of one.
 fn coordinates(random: &mut Random, n: usize) -> Vec<i64> {
     let within = |random: &mut Random, size: u64| random.below(2 * size + 1) as i64 - size as i64;
     let family = random.below(8);
@@ -89,7 +89,6 @@ fn coordinates(random: &mut Random, n: usize) -> Vec<i64> {
         let (from, to) = (random.below(n as u64) as usize, random.below(n as u64) as usize);
         list[to] = list[from];
     }
-    // the second point: often the first, moved by one number in all three
     if n == 6 && random.below(3) == 0 {
         let by = random.of(&SMALL) * random.of(&[1, 1, 1_000]);
         for at in 0..3 {
@@ -116,7 +115,7 @@ impl Asked {
         (outside(&self.of(Coordinate, args)) || self.of(Count, args).iter().any(|n| *n > 5)).then_some(14)
     }
 
-    /// The right answer, and the name of an intended difference or that the Rust does not bear it out.
+    /// The right answer, and whether the Rust bears it out: it agrees, it differs by an intended difference of that name, or it has another answer.
     fn judged(&self, args: &[i64]) -> (Answer, Result<Option<&'static str>, Answer>) {
         let Some(refusal) = self.refused(args) else {
             let right = (self.model)(args);
@@ -124,9 +123,11 @@ impl Asked {
             return (right, if rust == right { Ok(None) } else { Err(rust) });
         };
         let rust = match refusal {
-            // a wider number is no argument of the Rust's
-            13 if self.of(Direction, args).iter().any(|d| u8::try_from(*d).is_ok_and(|d| h3o::Direction::try_from(d).is_ok() != (d < 7))) => Err(Answer::Number(0)),
-            13 => Ok(None),
+            13 => {
+                // no number above 255 can be put to the Rust
+                let taken = |d: &i64| u8::try_from(*d).is_ok_and(|d| d > 6 && h3o::Direction::try_from(d).is_ok());
+                self.of(Direction, args).into_iter().find(taken).map_or(Ok(None), |d| Err(Answer::Number(d)))
+            }
             _ if self.of(Count, args).is_empty() => Ok(Some("coordinate-beyond-the-range")),
             // the Rust turns on, by the count less its sixes
             _ => match (self.rust)(args) {
@@ -161,7 +162,7 @@ impl Asked {
         }
     }
 
-    /// Each argument of a list for its kind: every request of these.
+    /// Every request whose coordinates are of a list, and whose directions and counts are 0 to 15 or of `NUMBERS`.
     fn product(&self, coordinates: &[i64], mut each: impl FnMut(&[i64])) {
         let numbers: Vec<i64> = (0..16).chain(NUMBERS).collect();
         let lists: Vec<&[i64]> = self.takes.iter().map(|t| if *t == Coordinate { coordinates } else { &numbers }).collect();

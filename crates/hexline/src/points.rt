@@ -49,7 +49,7 @@ fn direction_turn(buf: &mut Buffer, o: Out, line: Line, ccw: bool) -> Out {
 }
 
 fn neighbour(buf: &mut Buffer, o: Out, line: Line) -> Out {
-    let Triple::Value(p) = triple(line, 1) else {
+    let Given::Value(p) = triple(line, 1) else {
         return say::malformed(buf, o);
     };
     let Small::Value(d) = line.natural32(4) else {
@@ -70,7 +70,7 @@ fn from_ij(buf: &mut Buffer, o: Out, line: Line) -> Out {
 
 // Requests of one point that have no sense of turning.
 fn of_one(buf: &mut Buffer, o: Out, line: Line) -> Out {
-    let Triple::Value(p) = triple(line, 1) else {
+    let Given::Value(p) = triple(line, 1) else {
         return turning(buf, o, line);
     };
     if line.is(b"normalise ", 4) {
@@ -86,7 +86,7 @@ fn of_one(buf: &mut Buffer, o: Out, line: Line) -> Out {
 }
 
 fn of_two(buf: &mut Buffer, o: Out, line: Line, p: IJK) -> Out {
-    let Triple::Value(q) = triple(line, 4) else {
+    let Given::Value(q) = triple(line, 4) else {
         return say::malformed(buf, o);
     };
     if line.is(b"same ", 7) {
@@ -100,7 +100,7 @@ fn of_two(buf: &mut Buffer, o: Out, line: Line, p: IJK) -> Out {
 
 // Requests of one point and a sense of turning.
 fn turning(buf: &mut Buffer, o: Out, line: Line) -> Out {
-    let Triple::Value(p) = triple(line, 2) else {
+    let Given::Value(p) = triple(line, 2) else {
         return say::malformed(buf, o);
     };
     if line.is(b"down7 ccw ", 5) {
@@ -130,23 +130,23 @@ fn turning(buf: &mut Buffer, o: Out, line: Line) -> Out {
     say::malformed(buf, o)
 }
 
-enum Triple {
+enum Given {
     Value(IJK),
     Nothing,
 }
 
 // The three words from `at` on.
-fn triple(line: Line, at: usize) -> Triple
+fn triple(line: Line, at: usize) -> Given
     requires { ⌜ at ≤ 5 ⌝ }
 {
     let Signed::Value(i) = line.integer32(at) else {
-        return Triple::Nothing;
+        return Given::Nothing;
     };
     let Signed::Value(j) = line.integer32(at + 1) else {
-        return Triple::Nothing;
+        return Given::Nothing;
     };
     let Signed::Value(k) = line.integer32(at + 2) else {
-        return Triple::Nothing;
+        return Given::Nothing;
     };
-    Triple::Value(IJK { i, j, k })
+    Given::Value(IJK { i, j, k })
 }

@@ -26,10 +26,16 @@ pub fn number(buf: &mut Buffer, o: Out, a: Number) -> Out {
 
 pub fn truth(buf: &mut Buffer, o: Out, a: Truth) -> Out {
     match a {
-        Truth::Is(true) => out::text(buf, o, b"yes"),
-        Truth::Is(false) => out::text(buf, o, b"no"),
+        Truth::Is(holds) => yes_or_no(buf, o, holds),
         Truth::Refused(r) => refused(buf, o, r),
     }
+}
+
+fn yes_or_no(buf: &mut Buffer, o: Out, holds: bool) -> Out {
+    if holds {
+        return out::text(buf, o, b"yes");
+    }
+    out::text(buf, o, b"no")
 }
 
 pub fn point(buf: &mut Buffer, o: Out, a: Point) -> Out {
