@@ -54,11 +54,114 @@ typedef struct rg_checked {
     uint16_t zero;    /* 0, kept for later use */
 } rg_checked;
 
+/* A number: a direction, a distance, or 0 and 1 for no and yes. 16 bytes, 4 of them padding. */
+typedef struct rg_number {
+    uint16_t refusal; /* enum rg_refusal */
+    uint16_t zero;    /* 0, kept for later use */
+    uint64_t value;
+} rg_number;
+
+/* A point, in normal form: 16 bytes. */
+typedef struct rg_point {
+    uint16_t refusal; /* enum rg_refusal */
+    uint16_t zero;    /* 0, kept for later use */
+    int32_t i;
+    int32_t j;
+    int32_t k;
+} rg_point;
+
+/* The IJ form of a point: 12 bytes. */
+typedef struct rg_pair {
+    uint16_t refusal; /* enum rg_refusal */
+    uint16_t zero;    /* 0, kept for later use */
+    int32_t i;
+    int32_t j;
+} rg_pair;
+
 /* Is `cell` the number of a cell? `refusal` is RG_ANSWERED if so, else the first of RG_TOP_BIT to
  * RG_DELETED, in the order of their numbers, that is true of it.
  *     if (rg_check(cell).refusal == RG_ANSWERED) ...
  */
 rg_checked rg_check(uint64_t cell);
+
+/* Directions.
+ *
+ * 0 is the centre; 1 to 6 are the ways to the six neighbours of a hexagon, each by its unit vector
+ * (i, j, k), where direction = 4i + 2j + k:
+ *
+ *     1 K (0,0,1)    2 J (0,1,0)    3 JK (0,1,1)    4 I (1,0,0)    5 IK (1,0,1)    6 IJ (1,1,0)
+ *
+ * Once round counter-clockwise they are 1, 5, 4, 6, 2, 3.
+ */
+
+/* The unit vector of a direction.
+ * Refused: RG_DIRECTION where `direction` is above 6.
+ */
+rg_point rg_unit(uint32_t direction);
+
+/* `direction` turned `count` times by 60 degrees: `value` is a direction. 0 stays 0.
+ * Refused: RG_DIRECTION where `direction` is above 6; then RG_RANGE where `count` is above 5.
+ */
+rg_number rg_direction_turn_ccw(uint32_t direction, uint32_t count);
+rg_number rg_direction_turn_cw(uint32_t direction, uint32_t count);
+
+/* Points.
+ *
+ * Three numbers i, j, k name a hexagon of the plane: so many steps in direction I, in J and in K,
+ * which lie 120 degrees apart. One step in each leads back, so (i, j, k) and (i + n, j + n, k + n)
+ * are one point. Its normal form is the triple whose least component is 0; every point answered is
+ * in normal form.
+ *
+ * A triple handed in need not be in normal form. Each coordinate handed in must be
+ * -100,000,000 to 100,000,000: all functions below refuse any other with RG_RANGE. Answers may lie
+ * beyond that; none overflows.
+ */
+
+/* The normal form of (i, j, k). */
+rg_point rg_normalise(int32_t i, int32_t j, int32_t k);
+
+/* The point next to (i, j, k) in a direction; the point itself in direction 0.
+ * Refused: RG_DIRECTION where `direction` is above 6; then RG_RANGE.
+ */
+rg_point rg_neighbour(int32_t i, int32_t j, int32_t k, uint32_t direction);
+
+/* Are (i, j, k) and (l, m, n) one point? `value` is 1 for yes, 0 for no. */
+rg_number rg_same_point(int32_t i, int32_t j, int32_t k, int32_t l, int32_t m, int32_t n);
+
+/* The number of steps from (i, j, k) to (l, m, n), from hexagon to neighbour. */
+rg_number rg_distance(int32_t i, int32_t j, int32_t k, int32_t l, int32_t m, int32_t n);
+
+/* The IJ form of a point, (i - k, j - k): one pair for each point. */
+rg_pair rg_to_ij(int32_t i, int32_t j, int32_t k);
+
+/* The point of an IJ form: (i, j, 0). */
+rg_point rg_from_ij(int32_t i, int32_t j);
+
+/* The same place in the next finer grid, whose hexagons have a seventh of the area; the grid is
+ * turned counter-clockwise or clockwise.
+ */
+rg_point rg_down7_ccw(int32_t i, int32_t j, int32_t k);
+rg_point rg_down7_cw(int32_t i, int32_t j, int32_t k);
+
+/* The same with a third of the area. */
+rg_point rg_down3_ccw(int32_t i, int32_t j, int32_t k);
+rg_point rg_down3_cw(int32_t i, int32_t j, int32_t k);
+
+/* The hexagon of the next coarser grid under which (i, j, k) lies: rg_up7_ccw undoes rg_down7_ccw,
+ * also with a unit vector added in between, and rg_up7_cw undoes rg_down7_cw.
+ */
+rg_point rg_up7_ccw(int32_t i, int32_t j, int32_t k);
+rg_point rg_up7_cw(int32_t i, int32_t j, int32_t k);
+
+/* The point turned by 60 degrees about (0, 0, 0). */
+rg_point rg_point_turn_ccw(int32_t i, int32_t j, int32_t k);
+rg_point rg_point_turn_cw(int32_t i, int32_t j, int32_t k);
+
+/* The direction, 0 to 6, of which (i, j, k) is the unit vector.
+ * Refused: RG_RANGE; then RG_NOT_UNIT where there is none, that is where the point is farther than
+ * one step from (0, 0, 0).
+ */
+rg_number rg_direction_of(int32_t i, int32_t j, int32_t k);
 
 #ifdef __cplusplus
 }

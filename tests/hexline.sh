@@ -31,6 +31,8 @@ good='check 80f3fffffffffff'
 same 'a long word' 'ok,input,ok,' "$({ echo "$good"; many 200000 a; printf '\n%s\n' "$good"; } | answers)"
 same 'a long number' 'input,ok,' "$({ printf 'check '; many 200000 0; printf '\n%s\n' "$good"; } | answers)"
 same 'leading zeros' 'input,' "$({ printf 'check '; many 200000 0; printf '80f3fffffffffff\n'; } | answers)"
+same 'leading zeros of decimals' '1 1 0,-1 0,' "$({ printf 'unit '; many 100000 0; printf '6\nij -'; many 100000 0; printf '1 0 '; many 100000 0; echo; } | answers)"
+same 'a long decimal' 'input,input,' "$({ printf 'unit '; many 100000 1; printf '\nij -'; many 100000 9; echo ' 0 0'; } | answers)"
 same 'a line of blanks' 'ok,input,ok,' "$({ echo "$good"; many 200000 ' '; printf '\n%s\n' "$good"; } | answers)"
 same 'blanks in front' 'input,' "$({ many 200000 ' '; echo "$good"; } | answers)"
 same 'blanks behind' 'input,' "$({ printf '%s' "$good"; many 200000 ' '; } | answers)"
@@ -53,6 +55,9 @@ same 'a NUL for a number' 'input,' "$(printf 'check \0\n' | answers)"
 # each byte but the hexadecimal digits, the blank and the line end spoils a number
 same 'each byte' '16 238 254' "$(awk 'BEGIN { for (b = 1; b < 256; b++) if (b != 10) printf "check 8%c\n", b }' | "$hexline" | awk '
     $0 == "refusal 2" { n++ } $0 == "input" { k++ } END { print n + 0, k + 0, NR }')"
+# but the decimal digits, of which 7 to 9 are no direction
+same 'each byte of a decimal' '7 3 244 254' "$(awk 'BEGIN { for (b = 1; b < 256; b++) if (b != 10) printf "unit %c\n", b }' | "$hexline" | awk '
+    $0 == "input" { k++; next } $0 == "refusal 13" { r++; next } { n++ } END { print n + 0, r + 0, k + 0, NR }')"
 
 # an answer is written before the next line is read
 dir=$(mktemp -d)

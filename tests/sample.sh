@@ -5,6 +5,6 @@ cd "$(dirname "$0")/.."
 tests/oracle/build.sh
 into=target/sample
 mkdir -p $into
-target/oracle/differ --sample 400 --seed 1 --into $into
+target/oracle/differ --sample 100 --seed 1 --into $into
 cat $into/stdin tests/lines/by_hand.in >crates/hexline/stdin
 cat $into/stdout tests/lines/by_hand.out >crates/hexline/stdout

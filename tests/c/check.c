@@ -1,26 +1,14 @@
 /* rg_check from C, and from C++ where this file is compiled as such. */
+#include "expect.h"
 #include "rivetgnome.h"
 
 #include <inttypes.h>
 #include <stddef.h>
-#include <stdio.h>
-
-static int passed, failed;
-
-static void expect(int holds, const char *what, uint64_t cell)
-{
-    if (holds) {
-        passed++;
-    } else {
-        failed++;
-        printf("failed: %s (cell %016" PRIx64 ")\n", what, cell);
-    }
-}
 
 static void check(const char *what, uint64_t cell, unsigned refusal)
 {
     rg_checked answer = rg_check(cell);
-    expect(answer.refusal == refusal && answer.zero == 0, what, cell);
+    expect(answer.refusal == refusal && answer.zero == 0, "%s (cell %016" PRIx64 ")", what, cell);
 }
 
 static const struct {
@@ -88,13 +76,12 @@ static void every_base_cell(void)
 
 int main(void)
 {
-    expect(sizeof(rg_checked) == 4, "size of rg_checked", 0);
-    expect(offsetof(rg_checked, refusal) == 0, "place of refusal", 0);
-    expect(offsetof(rg_checked, zero) == 2, "place of zero", 0);
-    expect(RG_DELETED_WAY == 17, "the last refusal", 0);
+    expect(sizeof(rg_checked) == 4, "size of rg_checked");
+    expect(offsetof(rg_checked, refusal) == 0, "place of refusal");
+    expect(offsetof(rg_checked, zero) == 2, "place of zero");
+    expect(RG_DELETED_WAY == 17, "the last refusal");
     for (size_t at = 0; at < sizeof cases / sizeof cases[0]; at++)
         check(cases[at].what, cases[at].cell, cases[at].refusal);
     every_base_cell();
-    printf("%d passed, %d failed\n", passed, failed);
-    return failed != 0;
+    return expected();
 }

@@ -3,16 +3,19 @@
 //!       compares; the status is not 0 where anything is left unexplained
 //!   differ --sample N --into DIR [--seed S] [ENTRY..]
 //!       writes N requests an entry to DIR/stdin and the Rust's answers to DIR/stdout
+mod asked;
 mod cells;
 mod check;
+mod directions;
 mod frame;
 mod model;
+mod points;
 mod rg;
 
 use frame::{Entry, Random, Tally};
 use std::process::ExitCode;
 
-const ENTRIES: &[Entry] = &[check::ENTRY];
+const ENTRIES: [&[Entry]; 3] = [&[check::ENTRY], &directions::ENTRIES, &points::ENTRIES];
 
 struct Wish {
     count: u64,
@@ -25,7 +28,7 @@ struct Wish {
 fn wish(mut words: impl Iterator<Item = String>) -> Result<Wish, String> {
     let mut wish = Wish { count: 3_000_000, seed: 1, sample: None, into: None, entries: Vec::new() };
     while let Some(word) = words.next() {
-        if let Some(entry) = ENTRIES.iter().find(|e| e.name == word) {
+        if let Some(entry) = ENTRIES.into_iter().flatten().find(|e| e.name == word) {
             wish.entries.push(entry);
             continue;
         }
@@ -42,7 +45,7 @@ fn wish(mut words: impl Iterator<Item = String>) -> Result<Wish, String> {
         }
     }
     if wish.entries.is_empty() {
-        wish.entries = ENTRIES.iter().collect();
+        wish.entries = ENTRIES.into_iter().flatten().collect();
     }
     if wish.sample.is_some() != wish.into.is_some() {
         return Err("--sample and --into go together".into());

@@ -2,7 +2,21 @@
 
 pub const PENTAGONS: [u64; 12] = [4, 14, 24, 38, 49, 58, 63, 72, 83, 97, 107, 117];
 
-pub const REFUSALS: [&str; 8] = ["valid", "TopBit", "Mode", "Reserved", "BaseCell", "Digit", "Unused", "Deleted"];
+/// The names of the refusals, by number.
+pub const REFUSALS: [&str; 18] = [
+    "answered", "TopBit", "Mode", "Reserved", "BaseCell", "Digit", "Unused", "Deleted", "Resolution", "Order", "NoRoom", "Position", "NotUnder",
+    "Direction", "Range", "NoString", "NotUnit", "DeletedWay",
+];
+
+/// What a request ends with. A direction, a distance or a count is a number.
+#[derive(Clone, Copy, PartialEq)]
+pub enum Answer {
+    Refused(u16),
+    Number(i64),
+    Truth(bool),
+    Point(Point),
+    Pair([i64; 2]),
+}
 
 /// Bits `low` to `high` of a number.
 fn bits(n: u64, low: u32, high: u32) -> u64 {
@@ -41,4 +55,80 @@ pub fn holds(number: u16, n: u64) -> bool {
 /// The first refusal met, or 0: valid.
 pub fn check(n: u64) -> u16 {
     (1..=7).find(|&number| holds(number, n)).unwrap_or(0)
+}
+
+// Directions and points. Whole numbers here are wide enough that nothing overflows.
+
+pub type Point = [i64; 3];
+
+/// "Value = 4i + 2j + k of the unit vector."
+pub fn unit(direction: i64) -> Point {
+    let all = [[0, 0, 0], [0, 0, 1], [0, 1, 0], [0, 1, 1], [1, 0, 0], [1, 0, 1], [1, 1, 0]];
+    *all.iter().find(|v| 4 * v[0] + 2 * v[1] + v[2] == direction).expect("a direction")
+}
+
+/// "One turn counter-clockwise maps 1, 5, 4, 6, 2, 3 each to the next, 3 to 1; clockwise is the reverse; 0 stays."
+pub fn turn(ccw: bool, direction: i64) -> i64 {
+    let mut ring = [1, 5, 4, 6, 2, 3, 1];
+    if !ccw {
+        ring.reverse();
+    }
+    ring.windows(2).find(|w| w[0] == direction).map_or(0, |w| w[1])
+}
+
+pub fn turns(ccw: bool, direction: i64, count: i64) -> i64 {
+    (0..count).fold(direction, |d, _| turn(ccw, d))
+}
+
+/// "a coordinate is outside -100,000,000 to 100,000,000"
+pub fn outside(coordinates: &[i64]) -> bool {
+    coordinates.iter().any(|c| !(-100_000_000..=100_000_000).contains(c))
+}
+
+/// "Normalising subtracts the least component from all three."
+pub fn normal(p: Point) -> Point {
+    p.map(|c| c - p.iter().min().expect("three components"))
+}
+
+/// "Distance is the largest component of the normalised difference."
+pub fn distance(p: Point, q: Point) -> i64 {
+    *normal([p[0] - q[0], p[1] - q[1], p[2] - q[2]]).iter().max().expect("three components")
+}
+
+/// "IJ form is (i - k, j - k)"
+pub fn ij(p: Point) -> [i64; 2] {
+    [p[0] - p[2], p[1] - p[2]]
+}
+
+/// "an IJ pair read back is the point (i, j, 0)"
+pub fn from_ij(pair: [i64; 2]) -> Point {
+    normal([pair[0], pair[1], 0])
+}
+
+/// Images of i, j and k, a row each.
+type Images = [Point; 3];
+pub const DOWN7: [Images; 2] = [[[3, 1, 0], [0, 3, 1], [1, 0, 3]], [[3, 0, 1], [1, 3, 0], [0, 1, 3]]];
+pub const DOWN3: [Images; 2] = [[[2, 1, 0], [0, 2, 1], [1, 0, 2]], [[2, 0, 1], [1, 2, 0], [0, 1, 2]]];
+pub const TURN: [Images; 2] = [[[1, 0, 1], [1, 1, 0], [0, 1, 1]], [[1, 1, 0], [0, 1, 1], [1, 0, 1]]];
+
+/// `images[1]` is counter-clockwise.
+pub fn image(images: [Images; 2], ccw: bool, p: Point) -> Point {
+    let rows = images[ccw as usize];
+    normal([0, 1, 2].map(|at| p[0] * rows[0][at] + p[1] * rows[1][at] + p[2] * rows[2][at]))
+}
+
+/// "divided by 7 and taken to the nearest whole number, negative ones too. A seventh never lies half way."
+fn seventh(n: i64) -> i64 {
+    (n - 3..=n + 3).find(|m| m % 7 == 0).expect("one of seven") / 7
+}
+
+/// "Up by aperture 7, from IJ: counter-clockwise (3i - j, i + 2j), clockwise (2i + j, 3j - i)"
+pub fn up7(ccw: bool, p: Point) -> Point {
+    let [i, j] = ij(p);
+    from_ij(if ccw { [3 * i - j, i + 2 * j] } else { [2 * i + j, 3 * j - i] }.map(seventh))
+}
+
+/// The direction of a unit vector or zero, whichever triple means it.
+pub fn direction_of(p: Point) -> Option<i64> {
+    (0..=6).find(|&d| unit(d) == normal(p))
 }

@@ -9,13 +9,69 @@ pub struct Checked {
 }
 const _: () = assert!(size_of::<Checked>() == 4 && std::mem::offset_of!(Checked, zero) == 2);
 
-mod c {
-    unsafe extern "C" {
-        pub fn rg_check(cell: u64) -> super::Checked;
-    }
+#[repr(C)]
+#[derive(Clone, Copy)]
+pub struct Number {
+    pub refusal: u16,
+    pub zero: u16,
+    pub value: u64,
+}
+const _: () = assert!(size_of::<Number>() == 16 && std::mem::offset_of!(Number, value) == 8);
+
+#[repr(C)]
+#[derive(Clone, Copy)]
+pub struct Point {
+    pub refusal: u16,
+    pub zero: u16,
+    pub i: i32,
+    pub j: i32,
+    pub k: i32,
+}
+const _: () = assert!(size_of::<Point>() == 16 && std::mem::offset_of!(Point, k) == 12);
+
+#[repr(C)]
+#[derive(Clone, Copy)]
+pub struct Pair {
+    pub refusal: u16,
+    pub zero: u16,
+    pub i: i32,
+    pub j: i32,
+}
+const _: () = assert!(size_of::<Pair>() == 12 && std::mem::offset_of!(Pair, j) == 8);
+
+/// Each function `rg_NAME` of the archive, as `NAME`.
+macro_rules! functions {
+    ($($rg:ident $name:ident($($arg:ident: $of:ty),*) -> $answer:ident;)*) => {
+        mod c {
+            unsafe extern "C" {
+                $(pub safe fn $rg($($arg: $of),*) -> super::$answer;)*
+            }
+        }
+        $(pub fn $name($($arg: $of),*) -> $answer {
+            c::$rg($($arg),*)
+        })*
+    };
 }
 
-pub fn check(cell: u64) -> Checked {
-    // SAFETY: a pure function of a number.
-    unsafe { c::rg_check(cell) }
+// Pure functions of numbers, so `safe`.
+functions! {
+    rg_check check(cell: u64) -> Checked;
+    rg_unit unit(direction: u32) -> Point;
+    rg_direction_turn_ccw direction_turn_ccw(direction: u32, count: u32) -> Number;
+    rg_direction_turn_cw direction_turn_cw(direction: u32, count: u32) -> Number;
+    rg_normalise normalise(i: i32, j: i32, k: i32) -> Point;
+    rg_neighbour neighbour(i: i32, j: i32, k: i32, direction: u32) -> Point;
+    rg_same_point same_point(i: i32, j: i32, k: i32, l: i32, m: i32, n: i32) -> Number;
+    rg_distance distance(i: i32, j: i32, k: i32, l: i32, m: i32, n: i32) -> Number;
+    rg_to_ij to_ij(i: i32, j: i32, k: i32) -> Pair;
+    rg_from_ij from_ij(i: i32, j: i32) -> Point;
+    rg_down7_ccw down7_ccw(i: i32, j: i32, k: i32) -> Point;
+    rg_down7_cw down7_cw(i: i32, j: i32, k: i32) -> Point;
+    rg_down3_ccw down3_ccw(i: i32, j: i32, k: i32) -> Point;
+    rg_down3_cw down3_cw(i: i32, j: i32, k: i32) -> Point;
+    rg_point_turn_ccw point_turn_ccw(i: i32, j: i32, k: i32) -> Point;
+    rg_point_turn_cw point_turn_cw(i: i32, j: i32, k: i32) -> Point;
+    rg_up7_ccw up7_ccw(i: i32, j: i32, k: i32) -> Point;
+    rg_up7_cw up7_cw(i: i32, j: i32, k: i32) -> Point;
+    rg_direction_of direction_of(i: i32, j: i32, k: i32) -> Number;
 }

@@ -1,6 +1,9 @@
 // Answers the requests on standard input, one a line, on standard output.
 mod answer;
+mod cells;
 mod out;
+mod points;
+mod say;
 mod serve;
 
 fn main() {

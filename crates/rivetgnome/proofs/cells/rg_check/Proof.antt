@@ -1,8 +1,8 @@
 use borrow.Author.Needs.{needs}
 use mathlib.Core.Path.{refl, ap, _∙_}
 use Rattle.index.specs.Refusals.{numberOf}
-use Rattle.rivetgnome.proofs.rg_check.Statement.{statement}
-use Rattle.rivetgnome.proofs.rg_check.Tie as tie
+use Rattle.rivetgnome.proofs.cells.rg_check.Statement.{statement}
+use Rattle.rivetgnome.proofs.cells.rg_check.Tie as tie
 
 check-requires : tie.Need-check-requires
 check-requires c κs = search needs
