@@ -7,3 +7,4 @@ pub mod Answers
 pub mod Sum
 pub mod Runs
 pub mod View
+pub mod Cut

@@ -2,3 +2,4 @@ pub mod Layout
 pub mod Refusals
 pub mod View
 pub mod Check
+pub mod Ancestor

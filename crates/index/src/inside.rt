@@ -1,13 +1,19 @@
 // What our own crates need of a cell. No entry stands here: this module is public only because it crosses our crates' border.
 ghost use mathlib.Core.Path.{_≡_};
-ghost use Prim.Native.Nat.{_≤_};
-ghost use Rattle.index.specs.Layout.{Valid, resOf};
+ghost use mathlib.Core.Bool.{_&&_};
+ghost use Prim.Native.Nat.{_-_, _^_, _≤_};
+ghost use lib.Dec.{eqb};
+ghost use Rattle.index.specs.Layout.{Valid, resOf, baseOf, digit as digitAt, firstOf, isPentagonal};
 use crate::BaseCell;
 use crate::Cell;
 use crate::Digit;
 use crate::Refusal;
 use crate::Resolution;
+use crate::bits::first_axe;
+use crate::bits::get_base_cell;
+use crate::bits::get_direction;
 use crate::bits::get_resolution;
+pub use crate::parent::ancestor;
 
 pub fn cell(n: u64) -> Cell
     requires { ⌜ Valid n ⌝ }
@@ -54,4 +60,37 @@ pub fn resolution_of(c: Cell) -> Resolution
     ensures { λ r. ⌜ r .0 ≡ resOf (c .0) ⌝ }
 {
     get_resolution(c.0)
+}
+
+// The digit of resolution r of any number.
+pub fn direction(n: u64, r: Resolution) -> u64
+    requires { ⌜ (1 ≤ r .0) × (r .0 ≤ 15) ⌝ }
+    ensures { λ d. ⌜ d ≡ digitAt n (r .0) ⌝ }
+{
+    get_direction(n, r)
+}
+
+// One in the place of the digit of resolution r.
+pub fn place(r: Resolution) -> u64
+    requires { ⌜ r .0 ≤ 15 ⌝ }
+    ensures { λ u. ⌜ u ≡ 8 ^ (15 - r .0) ⌝ }
+{
+    1 << (3 * (15 - r.0))
+}
+
+pub fn is_pentagon(c: Cell) -> bool
+    requires { ⌜ Valid (c .0) ⌝ }
+    ensures { λ t. ⌜ t ≡ (isPentagonal (baseOf (c .0)) && eqb (firstOf (c .0) (resOf (c .0))) 0) ⌝ }
+{
+    let n = c.0;
+    if crate::base_cell::is_pentagon(BaseCell(get_base_cell(n))) {
+        return first_axe(n) == 0;
+    }
+    false
+}
+
+pub fn resolution_number(r: Resolution) -> u64
+    ensures { λ k. ⌜ k ≡ r .0 ⌝ }
+{
+    r.0
 }

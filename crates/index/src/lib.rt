@@ -6,6 +6,7 @@ ghost use Rattle.index.specs.Check.{told};
 mod base_cell;
 mod bits;
 pub mod inside;
+mod parent;
 mod raw;
 
 pub use raw::check;
