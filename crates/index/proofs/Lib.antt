@@ -8,3 +8,6 @@ pub mod Sum
 pub mod Runs
 pub mod View
 pub mod Cut
+pub mod Write
+pub mod Redrawn
+pub mod Turning
