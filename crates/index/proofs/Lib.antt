@@ -11,3 +11,4 @@ pub mod Cut
 pub mod Write
 pub mod Redrawn
 pub mod Turning
+pub mod Loose
