@@ -1,2 +1,5 @@
 pub mod Tables
 pub mod Walks
+pub mod Reached
+pub mod Steps
+pub mod Centres

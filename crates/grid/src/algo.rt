@@ -6,10 +6,10 @@ ghost use Rattle.index.specs.Layout.{Valid};
 ghost use Rattle.grid.specs.Tables as tables;
 ghost use Rattle.grid.specs.Walks.{walkedOf, carryOf};
 ghost use Rattle.grid.specs.Steps.{stepOf, toldStep};
-use plane::direction;
-use plane::direction::Direction;
 use index::Cell;
 use index::inside;
+use plane::direction;
+use plane::direction::Direction;
 
 const NEW_DIRECTION_II: [[u8; 7]; 7] = [
     [0, 1, 2, 3, 4, 5, 6],

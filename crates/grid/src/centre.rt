@@ -6,15 +6,15 @@ ghost use Rattle.plane.specs.Points.{normal, Same, plus, down7, up7};
 ghost use Rattle.plane.specs.Ranges.{Within, Broad};
 ghost use Rattle.index.specs.Layout.{Valid};
 ghost use Rattle.grid.specs.Centres.{centreOf};
+use crate::algo::is_odd;
+use index::Cell;
+use index::Resolution;
+use index::inside;
 use plane::direction;
 use plane::direction::Direction;
 use plane::ijk;
 use plane::ijk::IJK;
 use plane::ijk::Way;
-use index::Cell;
-use index::Resolution;
-use index::inside;
-use crate::algo::is_odd;
 
 // The centre of a cell's used digits, whatever the base cell.
 pub fn centre(c: Cell) -> IJK
