@@ -3,3 +3,4 @@ pub mod Walks
 pub mod Reached
 pub mod Steps
 pub mod Centres
+pub mod Inside
