@@ -40,6 +40,13 @@ decide x y = go (eqb x y) refl
     go true e = yes (eqb-true x y e)
     go false e = no (eqb-false x y e)
 
+-- an answer is one of the kinds
+pub within : (x : Outcome Way) (m t k u : ℕ) → x ≡ answered (inside m t) → x ≡ answered (inside k u) → (m ≡ k) × (t ≡ u)
+within x m t k u p q = (cc, cc)
+
+pub never : {A : Type 0} (x : Outcome Way) (m t : ℕ) → x ≡ answered (inside m t) → ((k : ℕ) → x ≡ answered (leaves k) → A) × ((k : ℕ) → x ≡ refused k → A)
+never x m t p = (λ k q. absurd (let z : _≡_ {A = ℕ} 0 1 = cc in omega arith), λ k q. absurd (let z : _≡_ {A = ℕ} 0 1 = cc in omega arith))
+
 -- the five ways through the step
 pub data Case (n way : ℕ) : Type 0 where
   left : (carryOf n way ≡ 0 → ⊥) → stepOf n way ≡ answered (leaves (carryOf n way)) → Case n way
@@ -83,12 +90,6 @@ module _ (n way : ℕ) (v : Valid n) (hw : way < 7) where
   packs : (m : ℕ) (es : List ℕ) → Fit (baseOf n) es → length es ≡ resOf n → pack (baseOf n) es ≡ m → In m
   packs m es f l e =
       subst In e (record { cell = pack-valid (baseOf n) es f; base = pack-base (baseOf n) es f; res = pack-res (baseOf n) es f ∙ l })
-
-  within : (x : Outcome Way) (m t k u : ℕ) → x ≡ answered (inside m t) → x ≡ answered (inside k u) → (m ≡ k) × (t ≡ u)
-  within x m t k u p q = (cc, cc)
-
-  never : {A : Type 0} (x : Outcome Way) (m t : ℕ) → x ≡ answered (inside m t) → ((k : ℕ) → x ≡ answered (leaves k) → A) × ((k : ℕ) → x ≡ refused k → A)
-  never x m t p = (λ k q. absurd (let z : _≡_ {A = ℕ} 0 1 = cc in omega arith), λ k q. absurd (let z : _≡_ {A = ℕ} 0 1 = cc in omega arith))
 
   pub step-inside : (m t : ℕ) → stepOf n way ≡ answered (inside m t) → In m
   step-inside m t e = go cases

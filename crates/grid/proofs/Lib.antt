@@ -4,3 +4,4 @@ pub mod Reached
 pub mod Steps
 pub mod Centres
 pub mod Inside
+pub mod WayBack
