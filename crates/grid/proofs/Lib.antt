@@ -5,3 +5,4 @@ pub mod Steps
 pub mod Centres
 pub mod Inside
 pub mod WayBack
+pub mod Reading

@@ -21,7 +21,7 @@ digit-same n y s e g l =
 
 module _ (b : ℕ) (ds : List ℕ) (hb : b ≤ 127) (short : length ds ≤ 15) (digits : Digits ds) where
   -- in base cell 0, which is no pentagon's
-  bare : Fit 0 ds
+  pub bare : Fit 0 ds
   unfolding isPentagonal among
   bare = record { base = omega arith; short = short; digits = digits; kept = λ q e. true≢false (sym q) }
 
