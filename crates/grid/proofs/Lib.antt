@@ -6,3 +6,5 @@ pub mod Centres
 pub mod Inside
 pub mod WayBack
 pub mod Reading
+pub mod Strings
+pub mod Ranges
