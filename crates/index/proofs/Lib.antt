@@ -8,3 +8,7 @@ pub mod Sum
 pub mod Runs
 pub mod View
 pub mod Cut
+pub mod Write
+pub mod Redrawn
+pub mod Turning
+pub mod Loose

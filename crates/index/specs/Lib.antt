@@ -3,3 +3,5 @@ pub mod Refusals
 pub mod View
 pub mod Check
 pub mod Ancestor
+pub mod Written
+pub mod Turns

@@ -14,6 +14,10 @@ use crate::bits::get_base_cell;
 use crate::bits::get_direction;
 use crate::bits::get_resolution;
 pub use crate::parent::ancestor;
+pub use crate::turn::pentagon_rotate60;
+pub use crate::turn::rotate60;
+pub use crate::turn::set_direction;
+pub use crate::turn::turn_digits;
 
 pub fn cell(n: u64) -> Cell
     requires { ⌜ Valid n ⌝ }
@@ -93,4 +97,19 @@ pub fn resolution_number(r: Resolution) -> u64
     ensures { λ k. ⌜ k ≡ r .0 ⌝ }
 {
     r.0
+}
+
+// The first used digit that is not 0 of any number, or 0.
+pub fn first_direction(n: u64) -> u64
+    ensures { λ d. ⌜ d ≡ firstOf n (resOf n) ⌝ }
+{
+    first_axe(n)
+}
+
+// Whether a cell lies in a pentagon base cell.
+pub fn in_pentagon(c: Cell) -> bool
+    requires { ⌜ Valid (c .0) ⌝ }
+    ensures { λ t. ⌜ t ≡ isPentagonal (baseOf (c .0)) ⌝ }
+{
+    crate::base_cell::is_pentagon(BaseCell(get_base_cell(c.0)))
 }

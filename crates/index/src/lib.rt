@@ -8,6 +8,7 @@ mod bits;
 pub mod inside;
 mod parent;
 mod raw;
+mod turn;
 
 pub use raw::check;
 

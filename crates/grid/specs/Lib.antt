@@ -1,0 +1,4 @@
+pub mod Tables
+pub mod Walks
+pub mod Steps
+pub mod Centres

@@ -1,0 +1,151 @@
+// The digit walk and the step (grid/algo.rs).
+ghost use mathlib.Core.Path.{_≡_};
+ghost use Prim.Native.Nat.{_<_, _≤_};
+ghost use Rattle.plane.specs.Strings.{odd};
+ghost use Rattle.index.specs.Layout.{Valid};
+ghost use Rattle.grid.specs.Tables as tables;
+ghost use Rattle.grid.specs.Walks.{walkedOf, carryOf};
+ghost use Rattle.grid.specs.Steps.{stepOf, toldStep};
+use index::Cell;
+use index::inside;
+use plane::direction;
+use plane::direction::Direction;
+
+const NEW_DIRECTION_II: [[u8; 7]; 7] = [
+    [0, 1, 2, 3, 4, 5, 6],
+    [1, 4, 3, 6, 5, 2, 0],
+    [2, 3, 1, 4, 6, 0, 5],
+    [3, 6, 4, 5, 0, 1, 2],
+    [4, 5, 6, 0, 2, 3, 1],
+    [5, 2, 0, 1, 3, 6, 4],
+    [6, 0, 5, 2, 1, 4, 3],
+];
+
+const NEW_ADJUSTMENT_II: [[u8; 7]; 7] = [
+    [0, 0, 0, 0, 0, 0, 0],
+    [0, 1, 0, 1, 0, 5, 0],
+    [0, 0, 2, 3, 0, 0, 2],
+    [0, 1, 3, 3, 0, 0, 0],
+    [0, 0, 0, 0, 4, 4, 6],
+    [0, 5, 0, 0, 4, 5, 0],
+    [0, 0, 2, 0, 6, 0, 6],
+];
+
+const NEW_DIRECTION_III: [[u8; 7]; 7] = [
+    [0, 1, 2, 3, 4, 5, 6],
+    [1, 2, 3, 4, 5, 6, 0],
+    [2, 3, 4, 5, 6, 0, 1],
+    [3, 4, 5, 6, 0, 1, 2],
+    [4, 5, 6, 0, 1, 2, 3],
+    [5, 6, 0, 1, 2, 3, 4],
+    [6, 0, 1, 2, 3, 4, 5],
+];
+
+const NEW_ADJUSTMENT_III: [[u8; 7]; 7] = [
+    [0, 0, 0, 0, 0, 0, 0],
+    [0, 1, 0, 3, 0, 1, 0],
+    [0, 0, 2, 2, 0, 0, 6],
+    [0, 3, 2, 3, 0, 0, 0],
+    [0, 0, 0, 0, 4, 5, 4],
+    [0, 1, 0, 0, 5, 5, 0],
+    [0, 0, 6, 0, 4, 0, 6],
+];
+
+pub(crate) fn is_odd(r: u64) -> bool
+    ensures { λ o. ⌜ o ≡ odd r ⌝ }
+{
+    r % 2 == 1
+}
+
+fn new_digit(at_odd: bool, old: u64, way: u8) -> u8
+    requires { ⌜ (old < 7) × (way < 7) ⌝ }
+    ensures { λ d. ⌜ d ≡ tables.newDigit «at_odd» old way ⌝ }
+{
+    let a = old as usize;
+    let b = way as usize;
+    if at_odd {
+        NEW_DIRECTION_II[a][b]
+    } else {
+        NEW_DIRECTION_III[a][b]
+    }
+}
+
+fn adjustment(at_odd: bool, old: u64, way: u8) -> u8
+    requires { ⌜ (old < 7) × (way < 7) ⌝ }
+    ensures { λ d. ⌜ d ≡ tables.adjustment «at_odd» old way ⌝ }
+{
+    let a = old as usize;
+    let b = way as usize;
+    if at_odd {
+        NEW_ADJUSTMENT_II[a][b]
+    } else {
+        NEW_ADJUSTMENT_III[a][b]
+    }
+}
+
+// The number with the new digits, and the carry: 0 if none.
+pub struct Walked {
+    pub number: u64,
+    pub carry: Direction,
+}
+
+// Digits change from the finest upward until the adjustment is 0.
+pub fn walk(c: Cell, d: Direction) -> Walked
+    requires { ⌜ Valid (c .0) × (d .0 < 7) ⌝ }
+    ensures { λ w. ⌜ (w .number ≡ walkedOf (c .0) (d .0)) × (w .carry .0 ≡ carryOf (c .0) (d .0)) ⌝ }
+{
+    let mut n = inside::number_of(c);
+    let mut r = inside::resolution_number(inside::resolution_of(c));
+    let mut way = direction::value(d);
+    while 0 < r {
+        if way == 0 {
+            break;
+        }
+        let at = inside::resolution(r);
+        let old = inside::direction(n, at);
+        let o = is_odd(r);
+        let new = new_digit(o, old, way);
+        way = adjustment(o, old, way);
+        n = inside::set_direction(n, at, inside::digit(new as u64));
+        r -= 1;
+    }
+    Walked {
+        number: n,
+        carry: direction::new_unchecked(way),
+    }
+}
+
+pub enum Stepped {
+    // A cell of the same base cell, and the turn number.
+    Inside(Cell, u8),
+    // The base cell is left in a direction.
+    Leaves(Direction),
+    // Refusal 17.
+    DeletedWay,
+}
+
+pub fn step(c: Cell, d: Direction) -> Stepped
+    requires { ⌜ Valid (c .0) × (1 ≤ d .0) × (d .0 < 7) ⌝ }
+    ensures { λ s. ⌜ toldStep s ≡ stepOf (c .0) (d .0) ⌝ }
+{
+    let w = walk(c, d);
+    let n = w.number;
+    let carry = w.carry;
+    if direction::value(carry) != 0 {
+        return Stepped::Leaves(carry);
+    }
+    if !inside::in_pentagon(c) {
+        return Stepped::Inside(inside::cell(n), 0);
+    }
+    if inside::first_direction(n) != 1 {
+        return Stepped::Inside(inside::cell(n), 0);
+    }
+    let first = inside::first_direction(inside::number_of(c));
+    if first == 0 {
+        return Stepped::DeletedWay;
+    }
+    if first == 3 {
+        return Stepped::Inside(inside::cell(inside::turn_digits(n, true, 1)), 1);
+    }
+    Stepped::Inside(inside::cell(inside::turn_digits(n, false, 1)), 5)
+}

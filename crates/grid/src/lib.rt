@@ -1,0 +1,2 @@
+pub mod algo;
+pub mod centre;

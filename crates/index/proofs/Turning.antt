@@ -1,0 +1,162 @@
+-- Turns of digit strings and of cells. Said of the digits, a turn by a count is that many single turns, six give the digits back, and the
+-- other sense undoes one; the pentagon turn of a cell is a cell, and at resolution 0 the cell itself. Assumes nothing.
+use mathlib.Core.Path.{_≡_, refl, sym, ap, ap₂, _∙_, subst}
+use mathlib.Core.Bool.{Bool, true, false, not, cond}
+use mathlib.Core.Logic.{⊎-elim}
+use mathlib.Core.List.{List, [], _∷_, map}
+use Prim.Native.Nat.{ℕ, zero, suc, _+_, _-_, _/_, _^_, _≤_, _<_}
+use native.Mathlib.Nat.{eq-zero-or-pos}
+use native.Mathlib.Omega.{arith}
+use native.Mathlib.Numerals.{add-one}
+use lib.Dec.{T, eqb, lit<}
+use lib.ListN.{length}
+use borrow.Author.Tests.{eq-eqb, ne-eqb}
+use Rattle.plane.specs.Directions.{turn, turns}
+use Rattle.plane.specs.Strings.{Digits}
+use Rattle.plane.proofs.Every.{every, at}
+use Rattle.plane.proofs.Turns.{turns-below, turn-undone, six-turns}
+use Rattle.index.specs.Layout.{digit, resOf, baseOf, isPentagonal, Valid}
+use Rattle.index.specs.View.{used, pack, first, Fit}
+use Rattle.index.specs.Written.{Written, WithDigits}
+use Rattle.index.specs.Turns.{turnedBy, pentagonCount, pentagonTurned}
+use Rattle.index.proofs.Runs.{length-used}
+use Rattle.index.proofs.View.{packed, fit, pack-valid, pack-res, pack-base}
+use Rattle.index.proofs.Redrawn.{used-same}
+
+-- strings
+pub length-turned : (o : Bool) (k : ℕ) (ds : List ℕ) → length (map (turns o k) ds) ≡ length ds
+length-turned o k [] = refl
+length-turned o k (d ∷ ds) = ap suc (length-turned o k ds)
+
+pub digits-turned : (o : Bool) (k : ℕ) (ds : List ℕ) → Digits ds → Digits (map (turns o k) ds)
+digits-turned o k [] h = tt
+digits-turned o k (d ∷ ds) h = (turns-below o k d (h .0), digits-turned o k ds (h .1))
+
+pub turned-none : (o : Bool) (ds : List ℕ) → map (turns o 0) ds ≡ ds
+turned-none o [] = refl
+turned-none o (d ∷ ds) = ap (λ (es : List ℕ). d ∷ es) (turned-none o ds)
+
+pub turned-once-more : (o : Bool) (k : ℕ) (ds : List ℕ) → map (turns o (suc k)) ds ≡ map (turns o 1) (map (turns o k) ds)
+turned-once-more o k [] = refl
+turned-once-more o k (d ∷ ds) = ap (λ (es : List ℕ). turns o (suc k) d ∷ es) (turned-once-more o k ds)
+
+pub six-turned : (o : Bool) (ds : List ℕ) → Digits ds → map (turns o 6) ds ≡ ds
+six-turned o [] h = refl
+six-turned o (d ∷ ds) h = ap₂ _∷_ (six-turns o d (h .0)) (six-turned o ds (h .1))
+
+turn-within : (o : Bool) (k d : ℕ) → turn o (turns o k d) ≡ turns o k (turn o d)
+turn-within o zero d = refl
+turn-within o (suc k) d = ap (turn o) (turn-within o k d)
+
+turns-undone : (o : Bool) (k d : ℕ) → d < 7 → turns (not o) k (turns o k d) ≡ d
+turns-undone o zero d h = refl
+turns-undone o (suc k) d h =
+    turn-within (not o) k (turn o (turns o k d)) ∙ ap (turns (not o) k) (turn-undone o (turns o k d) (turns-below o k d h)) ∙ turns-undone o k d h
+
+pub turned-undone : (o : Bool) (k : ℕ) (ds : List ℕ) → Digits ds → map (turns (not o) k) (map (turns o k) ds) ≡ ds
+turned-undone o k [] h = refl
+turned-undone o k (d ∷ ds) h = ap₂ _∷_ (turns-undone o k d (h .0)) (turned-undone o k ds (h .1))
+
+-- the first digit that is not 0 is turned with the others
+turns-zero : (o : Bool) (k : ℕ) → turns o k 0 ≡ 0
+turns-zero true zero = refl
+turns-zero true (suc k) = ap (turn true) (turns-zero true k)
+turns-zero false zero = refl
+turns-zero false (suc k) = ap (turn false) (turns-zero false k)
+
+not-zero : (o : Bool) (k d : ℕ) → d < 7 → turns o k d ≡ 0 → d ≡ 0
+not-zero o k d h e = sym (turns-undone o k d h) ∙ ap (turns (not o) k) e ∙ turns-zero (not o) k
+
+pub first-below : (ds : List ℕ) → Digits ds → first ds < 7
+unfolding first
+first-below [] h = lit< tt
+first-below (d ∷ ds) h = pick (eqb (first ds) 0) d (first ds) (h .0) (first-below ds (h .1))
+  where
+    pick : (b : Bool) (x y : ℕ) → x < 7 → y < 7 → cond b x y < 7
+    pick true x y p q = p
+    pick false x y p q = q
+
+pub first-turned : (o : Bool) (k : ℕ) (ds : List ℕ) → Digits ds → first (map (turns o k) ds) ≡ turns o k (first ds)
+unfolding first
+first-turned o k [] h = sym (turns-zero o k)
+first-turned o k (d ∷ ds) h =
+    let e = first-turned o k ds (h .1) in
+    ⊎-elim
+    (λ (z : first ds ≡ 0). let y : first (map (turns o k) ds) ≡ 0 = e ∙ ap (turns o k) z ∙ turns-zero o k in rw (y, z))
+    (λ (z : 0 < first ds).
+    let a = ne-eqb (first ds) 0 (λ q. omega arith) in
+    let b = ne-eqb (first (map (turns o k) ds)) 0 (λ q. let y = not-zero o k (first ds) (first-below ds (h .1)) (sym e ∙ q) in omega arith) in
+    rw (a, b) e)
+    (eq-zero-or-pos (first ds))
+
+-- the loop of a turn: the digits to i are turned, the others and the bits above them as they were
+pub record Part (o : Bool) (k n i y : ℕ) : Type 0 where
+  pub upper : y / 2 ^ 45 ≡ n / 2 ^ 45
+  pub digits : used y i ≡ map (turns o k) (used n i)
+  pub rest : (s : ℕ) → i < s → s ≤ 15 → digit y s ≡ digit n s
+
+pub none : (o : Bool) (k n : ℕ) → Part o k n 0 n
+unfolding used
+none o k n = record { upper = refl; digits = refl; rest = λ s g l. refl }
+
+pub more : (o : Bool) (k n i y d e z : ℕ) → i < 15 → Part o k n i y → d ≡ digit y (i + 1) → e ≡ turns o k d → Written y (i + 1) e z → Part o k n (i + 1) z
+unfolding used
+more o k n i y d e z h p ed ee w =
+    record {
+      upper = w .upper ∙ p .upper;
+      digits = rw add-one (ap₂ _∷_ (rw add-one at (w .there) ∙ ee ∙ ap (turns o k) (ed ∙ p .rest (i + 1) (omega arith) (omega arith) ∙ rw add-one)) (used-same y z i (λ s g l. w .other s g (omega arith) (λ q. omega arith)) ∙ p .digits));
+      rest = λ s g l. w .other s (omega arith) l (λ q. omega arith) ∙ p .rest s (omega arith) l;
+    }
+
+pub all : (o : Bool) (k n i y : ℕ) → i ≡ resOf n → Part o k n i y → WithDigits n (map (turns o k) (used n (resOf n))) y
+all o k n i y e p =
+    let d = p .digits in
+    let r = p .rest in
+    record { upper = p .upper; digits = rw e at d; rest = rw e at r }
+
+-- the pentagon turn
+no-one : (f : ℕ → ℕ) → T (every 7 (λ x. not (eqb (f x) 1))) → (x : ℕ) → x < 7 → f x ≡ 1 → ⊥
+no-one f t x h e = subst T (ap not (eq-eqb (f x) 1 e)) (at 7 (λ (x : ℕ). not (eqb (f x) 1)) t x h)
+
+pentagon-first : (o : Bool) (x : ℕ) → x < 7 → turns o (cond (eqb x (cond o 3 5)) 2 1) x ≡ 1 → ⊥
+pentagon-first true x h = no-one (λ (x : ℕ). turns true (cond (eqb x 3) 2 1) x) tt x h
+pentagon-first false x h = no-one (λ (x : ℕ). turns false (cond (eqb x 5) 2 1) x) tt x h
+
+module _ (o : Bool) (n : ℕ) (v : Valid n) where
+  abbrev ds : List ℕ
+  ds = used n (resOf n)
+
+  -- turned by a count all but the last rule of a cell are kept
+  pub fit-turned : (k : ℕ) → (isPentagonal (baseOf n) ≡ true → turns o k (first ds) ≡ 1 → ⊥) → Fit (baseOf n) (map (turns o k) ds)
+  fit-turned k kept =
+      let f = fit n v in
+      record {
+        base = f .base;
+        short = rw length-turned (f .short);
+        digits = digits-turned o k ds (f .digits);
+        kept = λ q e. kept q (sym (first-turned o k ds (f .digits)) ∙ e);
+      }
+
+  pub fit-pentagon-turned : Fit (baseOf n) (map (turns o (pentagonCount o ds)) ds)
+  fit-pentagon-turned = fit-turned (pentagonCount o ds) (λ q. pentagon-first o (first ds) (first-below ds (fit n v .digits)))
+
+  -- also in hexagon base cells
+  pub pentagon-turned-valid : Valid (pentagonTurned o n)
+  unfolding pentagonTurned turnedBy
+  pentagon-turned-valid = pack-valid (baseOf n) (map (turns o (pentagonCount o ds)) ds) fit-pentagon-turned
+
+  pub pentagon-turned-base : baseOf (pentagonTurned o n) ≡ baseOf n
+  unfolding pentagonTurned turnedBy
+  pentagon-turned-base = pack-base (baseOf n) (map (turns o (pentagonCount o ds)) ds) fit-pentagon-turned
+
+  pub pentagon-turned-res : resOf (pentagonTurned o n) ≡ resOf n
+  unfolding pentagonTurned turnedBy
+  pentagon-turned-res = pack-res (baseOf n) (map (turns o (pentagonCount o ds)) ds) fit-pentagon-turned ∙ length-turned o (pentagonCount o ds) ds ∙ length-used n (resOf n)
+
+  pub pentagon-turned-coarsest : n < 2 ^ 64 → resOf n ≡ 0 → pentagonTurned o n ≡ n
+  unfolding pentagonTurned turnedBy used
+  pentagon-turned-coarsest h e = coarsest (resOf n) e (packed n h v)
+    where
+      coarsest : (r : ℕ) → r ≡ 0 → pack (baseOf n) (used n r) ≡ n → pack (baseOf n) (map (turns o (pentagonCount o (used n r))) (used n r)) ≡ n
+      coarsest zero e p = p
+      coarsest (suc r) e p = absurd (let q = e in omega arith)
