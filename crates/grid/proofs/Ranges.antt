@@ -17,8 +17,7 @@ use Rattle.plane.proofs.Every.{at-le, both}
 use Rattle.plane.proofs.Whole.{whole, diffs}
 use Rattle.plane.proofs.Bounds.{abs-add, abs-mul}
 use Rattle.plane.proofs.Pairs.{_⊕_, down-ij}
-use Rattle.plane.proofs.Ups.{ij-under}
-use Rattle.plane.proofs.Centres.{down-add}
+use Rattle.plane.proofs.Centres.{down-add, ij-centre, centre-normal}
 use Rattle.plane.proofs.Sizes.{normal-within}
 use Rattle.index.specs.Layout.{resOf, Valid}
 use Rattle.index.specs.View.{used}
@@ -81,8 +80,8 @@ centre-small (d ∷ e ∷ ds) h =
     let c = ij (centre ds) in
     let n = bound (length ds) in
     let p : ij (centre (d ∷ e ∷ ds)) ≡ pair (pos 7 *ℤ c .i) (pos 7 *ℤ c .j) ⊕ down-ij (not o) (ij (unit e)) ⊕ ij (unit d) =
-    ij-under (not o) (centre (e ∷ ds)) d
-    ∙ ap (λ (q : IJ). q ⊕ ij (unit d)) (ap (down-ij (not o)) (ij-under o (centre ds) e) ∙ down-add (not o) (down-ij o c) (ij (unit e)) ∙ ap (λ (q : IJ). q ⊕ down-ij (not o) (ij (unit e))) (seven o c)) in
+    ij-centre d (e ∷ ds)
+    ∙ ap (λ (q : IJ). q ⊕ ij (unit d)) (ap (down-ij (not o)) (ij-centre e ds) ∙ down-add (not o) (down-ij o c) (ij (unit e)) ∙ ap (λ (q : IJ). q ⊕ down-ij (not o) (ij (unit e))) (seven o c)) in
     subst (Small (7 * n + 3 + 1)) (sym p)
     (add-small (7 * n + 3) 1 (pair (pos 7 *ℤ c .i) (pos 7 *ℤ c .j) ⊕ down-ij (not o) (ij (unit e))) (ij (unit d))
     (add-small (7 * n) 3 (pair (pos 7 *ℤ c .i) (pos 7 *ℤ c .j)) (down-ij (not o) (ij (unit e))) (seven-small n c (centre-small ds (h .1 .1))) (down-small (not o) e (h .1 .0)))
@@ -97,7 +96,7 @@ centre-within n v =
     let ds = used n (resOf n) in
     let s = centre-small ds (fit n v .digits) in
     let l : bound (length ds) ≤ 50000000 = bound-small (length ds) (omega (arith, fit n v .short)) in
-    normal-within 50000000 (centre ds) (record { i = omega (arith, s .i); j = omega (arith, s .j) })
+    subst (Within 100000000) (centre-normal ds) (normal-within 50000000 (centre ds) (record { i = omega (arith, s .i); j = omega (arith, s .j) }))
 
 pub centre-in-range : (n : ℕ) → Valid n → T (point-in-range (centreOf n))
 centre-in-range n v =

@@ -10,7 +10,7 @@ use lib.Dec.{T, lit<}
 use lib.IntN.{ℤ, pos, natAbs, _+ℤ_, _-ℤ_}
 use lib.ListN.{length}
 use Rattle.plane.specs.Directions.{triple, vec, unit}
-use Rattle.plane.specs.Points.{normal, Same, same, pair, ij, of-ij, plus, minus, down7, up7, direction-of}
+use Rattle.plane.specs.Points.{normal, Same, same, pair, ij, of-ij, plus, minus, down7, up7, direction, direction-of}
 use Rattle.plane.specs.Ranges.{Within, Broad}
 use Rattle.plane.specs.Strings.{Digits, odd, centre}
 use Rattle.plane.specs.declared.ijk.IJK.{IJK}
@@ -21,7 +21,7 @@ use Rattle.plane.proofs.Whole.{whole, diffs}
 use Rattle.plane.proofs.Bounds.{within-minus, within-broad}
 use Rattle.plane.proofs.Pairs.{_⊕_, _⊖_, ij-plus, ij-minus, ij-normal, ij-same, same-ij}
 use Rattle.plane.proofs.Normal.{normal-same, same-test}
-use Rattle.plane.proofs.Units.{direction, direction-found}
+use Rattle.plane.proofs.Units.{direction-found}
 use Rattle.plane.proofs.Ups.{up-ij, some-way}
 use Rattle.plane.proofs.Centres.{same-under, up-centre, one-centre}
 use Rattle.plane.proofs.Sizes.{normal-within, up-broad, under-broad}
@@ -98,7 +98,7 @@ left-digit o q =
     let u = unit (w .0) in
     let e : ij (minus q (normal t)) ≡ ij u =
     ij-minus q (normal t) ∙ ap₂ _⊖_ (same-ij q (plus t u) (w .2) ∙ ij-plus t u) (ij-normal t) ∙ less-ij (ij t) (ij u) in
-    (w .0, w .1, w .2, direction-found (minus q (normal t)) (w .0) (w .1) (ij-same (minus q (normal t)) u e))
+    (w .0, w .1, w .2, direction-found (minus q (normal t)) (w .0) .1 (w .1, ij-same (minus q (normal t)) u e))
 
 -- one digit
 pub longer : (r d : ℕ) (xs : List ℕ) (q : IJK) → d < 7 → Same q (plus (down7 (odd (suc r)) (up7 (odd (suc r)) q)) (unit d)) → StringOf r (up7 (odd (suc r)) q) xs → StringOf (suc r) q (d ∷ xs)
@@ -107,7 +107,7 @@ longer r d xs q h e s =
     record {
       long = ap suc (s .long);
       digits = (h, s .digits);
-      point = ap (λ (m : ℕ). normal (plus (down7 (odd (suc m)) (centre xs)) (unit d))) (s .long) ∙ same-under (odd (suc r)) (centre xs) up d (s .point) ∙ sym e;
+      point = normal-same (plus (down7 (odd (suc (length xs))) (centre xs)) (unit d)) ∙ ap (λ (m : ℕ). normal (plus (down7 (odd (suc m)) (centre xs)) (unit d))) (s .long) ∙ same-under (odd (suc r)) (centre xs) up d (s .point) ∙ sym e;
     }
 
 pub shorter : (r : ℕ) (xs : List ℕ) (q : IJK) → StringOf (suc r) q xs → (ys : List ℕ) × StringOf r (up7 (odd (suc r)) q) ys
@@ -119,7 +119,7 @@ shorter r (d ∷ xs) q s =
       record {
         long = l;
         digits = s .digits .1;
-        point = sym (normal-same (centre xs)) ∙ ap normal (sym e ∙ ap (λ (m : ℕ). up7 (odd (suc m)) q) l);
+        point = ap normal (sym e ∙ ap (λ (m : ℕ). up7 (odd (suc m)) q) l);
       },
     )
 

@@ -9,7 +9,7 @@ use Rattle.plane.specs.Points.{normal, Same}
 use Rattle.plane.specs.Strings.{Digits, centre}
 use Rattle.plane.specs.declared.ijk.IJK.{IJK}
 use Rattle.plane.proofs.Normal.{normal-same}
-use Rattle.plane.proofs.Centres.{one-centre}
+use Rattle.plane.proofs.Centres.{one-centre, centre-normal}
 use Rattle.index.specs.Layout.{baseOf, resOf, Valid}
 use Rattle.index.specs.View.{used, pack, Fit}
 use Rattle.index.specs.Refusals.{Outcome, answered, refused}
@@ -19,7 +19,7 @@ use Rattle.index.proofs.Loose.{bare}
 use Rattle.grid.specs.Centres.{centreOf, StringOf, Reads}
 
 pub one-string : (r : ℕ) (p : IJK) (ds es : List ℕ) → StringOf r p ds → StringOf r p es → ds ≡ es
-one-string r p ds es a b = one-centre ds es (a .long ∙ sym (b .long)) (a .digits) (b .digits) (a .point ∙ sym (b .point))
+one-string r p ds es a b = one-centre ds es (a .long ∙ sym (b .long)) (a .digits) (b .digits) (sym (centre-normal ds) ∙ a .point ∙ sym (b .point) ∙ centre-normal es)
 
 pub one-reading : (r : ℕ) (p : IJK) (x y : Outcome ℕ) → Reads r p x → Reads r p y → x ≡ y
 one-reading r p (answered n) (answered m) a b = ap answered (a .2 ∙ ap (pack 0) (one-string r p (a .0) (b .0) (a .1) (b .1)) ∙ sym (b .2))
@@ -46,7 +46,7 @@ found-centre r p n h a =
       cell = pack-valid 0 ds f;
       base = pack-base 0 ds f;
       res = pack-res 0 ds f ∙ l;
-      centre = ap (λ (xs : List ℕ). normal (centre xs)) (ap (used (pack 0 ds)) (pack-res 0 ds f) ∙ pack-used 0 ds f) ∙ s .point;
+      centre = ap centre (ap (used (pack 0 ds)) (pack-res 0 ds f) ∙ pack-used 0 ds f) ∙ sym (centre-normal ds) ∙ s .point;
     })
 
 pub centre-found : (n : ℕ) → Valid n → (x : Outcome ℕ) → Reads (resOf n) (centreOf n) x → x ≡ answered (pack 0 (used n (resOf n)))
@@ -54,4 +54,4 @@ unfolding centreOf
 centre-found n v x a =
     let ds = used n (resOf n) in
     one-reading (resOf n) (centreOf n) x (answered (pack 0 ds)) a
-    (ds, record { long = length-used n (resOf n); digits = fit n v .digits; point = sym (normal-same (centre ds)) }, refl)
+    (ds, record { long = length-used n (resOf n); digits = fit n v .digits; point = refl }, refl)

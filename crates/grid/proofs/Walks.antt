@@ -13,7 +13,7 @@ use Rattle.plane.specs.Strings.{Digits, odd, centre, carried, joint}
 use Rattle.plane.specs.declared.ijk.IJK.{IJK}
 use Rattle.plane.specs.declared.ijk.IJ.{IJ}
 use Rattle.plane.proofs.Whole.{whole, diffs}
-use Rattle.plane.proofs.Pairs.{_⊕_, down-ij, ij-plus, ij-down7, ij-same, same-ij}
+use Rattle.plane.proofs.Pairs.{_⊕_, down-ij, ij-plus, ij-down7, ij-same, same-ij, ij-normal}
 use Rattle.plane.proofs.Centres.{down-add, joint-step, one-joint}
 use Rattle.index.specs.Layout.{digit, baseOf, resOf, Valid}
 use Rattle.index.specs.View.{used, pack}
@@ -70,6 +70,7 @@ moves (d ∷ ds) c h hc =
     joint-step n (walked ds a) (leftOver ds a)
     ∙ ap (λ (m : ℕ). down-ij (odd (suc m)) (ij (joint (walked ds a) (leftOver ds a))) ⊕ ij (unit n)) (length-walked ds a)
     ∙ one-digit o (centre ds) (ij (joint (walked ds a) (leftOver ds a))) (unit d) (unit c) (unit a) (unit n) (moves ds a (h .1) (adjusted-below o d c (h .0) hc)) (rule o d c (h .0) hc)
+    ∙ ap (λ (q : IJ). q ⊕ ij (unit c)) (sym (ij-normal (plus (down7 o (centre ds)) (unit d))))
 
 pub walked-joint : (ds : List ℕ) (c : ℕ) → Digits ds → c < 7 → Same (joint (walked ds c) (leftOver ds c)) (plus (centre ds) (unit c))
 walked-joint ds c h hc = ij-same (joint (walked ds c) (leftOver ds c)) (plus (centre ds) (unit c)) (moves ds c h hc ∙ sym (ij-plus (centre ds) (unit c)))

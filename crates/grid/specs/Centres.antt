@@ -3,7 +3,7 @@ use mathlib.Core.Path.{_≡_}
 use mathlib.Core.List.{List}
 use Prim.Native.Nat.{ℕ}
 use lib.ListN.{length}
-use Rattle.plane.specs.Points.{normal, Same}
+use Rattle.plane.specs.Points.{Same}
 use Rattle.plane.specs.Strings.{Digits, centre}
 use Rattle.plane.specs.declared.ijk.IJK.{IJK}
 use Rattle.index.specs.Layout.{resOf}
@@ -14,7 +14,7 @@ use Rattle.grid.specs.declared.centre.Read.the-variants.{Found, NoString
 
 -- it takes a cell and reads its used digits only, whatever the base cell
 unfoldable pub centreOf : ℕ → IJK
-centreOf n = normal (centre (used n (resOf n)))
+centreOf n = centre (used n (resOf n))
 
 -- a digit string of a length, with a centre
 pub record StringOf (r : ℕ) (p : IJK) (ds : List ℕ) : Type 0 where

@@ -21,7 +21,7 @@ record Inv (n k : ℕ) (p : IJK) (r : ℕ) : Type 0 where
   cell : Valid n
   res : k ≡ resOf n
   place : r ≤ k
-  is : p ≡ normal (centre (used n r))
+  is : p ≡ centre (used n r)
 
 abbrev Inv-loop : tie.InvT-loop
 Inv-loop n k p₀ r₀ p r = Inv n k p r
@@ -29,7 +29,7 @@ Inv-loop n k p₀ r₀ p r = Inv n k p r
 abbrev μ-loop : tie.MeasureT-loop
 μ-loop n k p₀ r₀ p r = k - r
 
-first : (x n k res : ℕ) (p : IJK) → Valid x → n ≡ x → res ≡ resOf x → k ≡ res → p ≡ normal (centre []) → Inv n k p 0
+first : (x n k res : ℕ) (p : IJK) → Valid x → n ≡ x → res ≡ resOf x → k ≡ res → p ≡ centre [] → Inv n k p 0
 unfolding used
 first x n k res p v en er ek ep =
     record { cell = subst Valid (sym en) v; res = ek ∙ er ∙ ap resOf (sym en); place = omega arith; is = ep }
@@ -124,7 +124,7 @@ done : (x n k r : ℕ) (p : IJK) → Inv n k p r → k ≤ r → n ≡ x → p �
 unfolding centreOf
 done x n k r p i h e =
     let q : r ≡ resOf n = let a = i .place in let b = i .res in omega arith in
-    i .is ∙ ap (λ (m : ℕ). normal (centre (used n m))) q ∙ ap (λ (m : ℕ). normal (centre (used m (resOf m)))) e
+    i .is ∙ ap (λ (m : ℕ). centre (used n m)) q ∙ ap (λ (m : ℕ). centre (used m (resOf m))) e
 
 returns : tie.Need-returns Inv-loop μ-loop
 returns c = done _ _ _ (c .before .loop .r) (c .before .loop .p) (c .before .loop .inv) (c .loop-test .left) (c .before .before .before .before .number-of .ensures)
