@@ -52,8 +52,8 @@ pub data Case (n way : ℕ) : Type 0 where
   left : (carryOf n way ≡ 0 → ⊥) → stepOf n way ≡ answered (leaves (carryOf n way)) → Case n way
   stayed : carryOf n way ≡ 0 → (isPentagonal (baseOf n) ≡ true → first (news n way) ≡ 1 → ⊥) → stepOf n way ≡ answered (inside (pack (baseOf n) (news n way)) 0) → Case n way
   deleted : carryOf n way ≡ 0 → isPentagonal (baseOf n) ≡ true → first (news n way) ≡ 1 → first (olds n) ≡ 0 → stepOf n way ≡ refused 17 → Case n way
-  ccw : first (news n way) ≡ 1 → first (olds n) ≡ 3 → stepOf n way ≡ answered (inside (pack (baseOf n) (map (turns true 1) (news n way))) 1) → Case n way
-  cw : first (news n way) ≡ 1 → first (olds n) ≡ 5 → stepOf n way ≡ answered (inside (pack (baseOf n) (map (turns false 1) (news n way))) 5) → Case n way
+  ccw : carryOf n way ≡ 0 → isPentagonal (baseOf n) ≡ true → first (news n way) ≡ 1 → first (olds n) ≡ 3 → stepOf n way ≡ answered (inside (pack (baseOf n) (map (turns true 1) (news n way))) 1) → Case n way
+  cw : carryOf n way ≡ 0 → isPentagonal (baseOf n) ≡ true → first (news n way) ≡ 1 → first (olds n) ≡ 5 → stepOf n way ≡ answered (inside (pack (baseOf n) (map (turns false 1) (news n way))) 5) → Case n way
 
 module _ (n way : ℕ) (v : Valid n) (hw : way < 7) where
   -- no other origin reaches the deleted digits
@@ -63,8 +63,8 @@ module _ (n way : ℕ) (v : Valid n) (hw : way < 7) where
 
   reached : carryOf n way ≡ 0 → isPentagonal (baseOf n) ≡ true → first (news n way) ≡ 1 → (first (olds n) ≡ 0) ⊎ ((first (olds n) ≡ 3) ⊎ (first (olds n) ≡ 5)) → Case n way
   reached z p g (inl e) = deleted z p g e (refusing n way z p g e)
-  reached z p g (inr (inl e)) = ccw g e (turning-ccw n way z p g e)
-  reached z p g (inr (inr e)) = cw g e (turning-cw n way z p g (λ q. omega arith) (λ q. omega arith))
+  reached z p g (inr (inl e)) = ccw z p g e (turning-ccw n way z p g e)
+  reached z p g (inr (inr e)) = cw z p g e (turning-cw n way z p g (λ q. omega arith) (λ q. omega arith))
 
   first-one : carryOf n way ≡ 0 → isPentagonal (baseOf n) ≡ true → Dec (first (news n way) ≡ 1) → Case n way
   first-one z p (yes g) = reached z p g (no-other z p g)
@@ -98,8 +98,8 @@ module _ (n way : ℕ) (v : Valid n) (hw : way < 7) where
       go (left f s) = never (stepOf n way) m t e .0 (carryOf n way) s
       go (stayed z k s) = packs m (news n way) (fit-news n way v hw k) (news-length n way v hw) (within (stepOf n way) _ 0 m t s e .0)
       go (deleted z p g f s) = never (stepOf n way) m t e .1 17 s
-      go (ccw g f s) = packs m (map (turns true 1) (news n way)) (fit-turned n way v hw true g) (length-turned true 1 (news n way) ∙ news-length n way v hw) (within (stepOf n way) _ 1 m t s e .0)
-      go (cw g f s) = packs m (map (turns false 1) (news n way)) (fit-turned n way v hw false g) (length-turned false 1 (news n way) ∙ news-length n way v hw) (within (stepOf n way) _ 5 m t s e .0)
+      go (ccw z p g f s) = packs m (map (turns true 1) (news n way)) (fit-turned n way v hw true g) (length-turned true 1 (news n way) ∙ news-length n way v hw) (within (stepOf n way) _ 1 m t s e .0)
+      go (cw z p g f s) = packs m (map (turns false 1) (news n way)) (fit-turned n way v hw false g) (length-turned false 1 (news n way) ∙ news-length n way v hw) (within (stepOf n way) _ 5 m t s e .0)
 
 -- a string of zeros, in direction 1
 all-zero : (d : ℕ) (ds : List ℕ) → first (d ∷ ds) ≡ 0 → (d ≡ 0) × (first ds ≡ 0)
@@ -169,5 +169,5 @@ deleted-way n way v l hw = (
       record { base = p; zeros = sym (first-used n (resOf n)) ∙ f; finer = finer n way l z },
       from-zeros (olds n) way (fit n v .digits) hw z g f,
     )
-    go e (ccw g f s) = unrefused (stepOf n way) e _ s
-    go e (cw g f s) = unrefused (stepOf n way) e _ s
+    go e (ccw z p g f s) = unrefused (stepOf n way) e _ s
+    go e (cw z p g f s) = unrefused (stepOf n way) e _ s
