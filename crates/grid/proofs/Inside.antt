@@ -1,35 +1,29 @@
 -- What the step's answers mean: an answer inside is a cell of the same base cell and resolution; no origin but those of first digit 3 or 5, or the
 -- pentagon itself, reaches the deleted digits; refusal 17 is given exactly for a pentagon of resolution 1 or finer in direction 1; resolution 0 is
 -- always left; a step with turn number 0 has a way back. Assumes nothing.
-use mathlib.Core.Path.{_≡_, refl, sym, ap, ap₂, _∙_, subst}
-use mathlib.Core.Bool.{Bool, true, false, cond, true≢false}
+use mathlib.Core.Path.{_≡_, refl, sym, ap, _∙_, subst}
+use mathlib.Core.Bool.{Bool, true, false, true≢false}
 use mathlib.Core.Logic.{_⊎_, inl, inr, ⊎-elim, _↔_}
-use mathlib.Core.List.{List, [], _∷_, map}
-use Prim.Native.Nat.{ℕ, zero, suc, _+_, _-_, _^_, _<_, _≤_}
+use mathlib.Core.List.{List, _∷_, map}
+use Prim.Native.Nat.{ℕ, zero, suc, _-_, _<_, _≤_}
 use native.Mathlib.Nat.{eq-zero-or-pos}
 use native.Mathlib.Omega.{arith}
-use lib.Dec.{T, eqb, lit<}
-use lib.IntN.{ℤ, pos, _+ℤ_}
+use lib.Dec.{eqb, lit<}
 use lib.ListN.{length}
 use borrow.Author.Tests.{eqb-true, eqb-false}
-use Rattle.plane.specs.Directions.{unit, turns}
-use Rattle.plane.specs.Points.{Same, equal, pair, ij, plus}
-use Rattle.plane.specs.Strings.{Digits, odd, centre, carried, joint}
-use Rattle.plane.specs.declared.ijk.IJ.{IJ}
+use Rattle.plane.specs.Directions.{turns}
+use Rattle.plane.specs.Strings.{Digits, odd}
 use Rattle.plane.proofs.Every.{at}
-use Rattle.plane.proofs.Whole.{whole, diffs, equal-eq}
-use Rattle.plane.proofs.Pairs.{_⊕_, down-ij, ij-plus, ij-down7, ij-same, same-ij}
 use Rattle.index.specs.Layout.{digit, baseOf, resOf, isPentagonal, firstOf, Valid}
 use Rattle.index.specs.View.{used, pack, first, Fit}
 use Rattle.index.specs.Refusals.{Outcome, answered, refused}
-use Rattle.index.proofs.Runs.{length-used}
 use Rattle.index.proofs.Turning.{length-turned}
-use Rattle.index.proofs.View.{fit, packed, first-used, pack-valid, pack-base, pack-res, pack-used}
+use Rattle.index.proofs.View.{fit, first-used, pack-valid, pack-base, pack-res}
 use Rattle.grid.specs.Tables.{newDigit, adjustment}
 use Rattle.grid.specs.Walks.{walked, leftOver, carryOf}
-use Rattle.grid.specs.Steps.{Way, inside, leaves, stepOf}
+use Rattle.grid.specs.Steps.{Answer, inside, leaves, stepOf}
 use Rattle.grid.proofs.Tables.{from-zero}
-use Rattle.grid.proofs.Walks.{length-walked, digits-walked, walked-zero, walked-joint, walked-only}
+use Rattle.grid.proofs.Walks.{walked-zero}
 use Rattle.grid.proofs.Reached.{origins, from-zeros}
 use Rattle.grid.proofs.Steps.{olds, news, leaving, staying, refusing, turning-ccw, turning-cw, fit-news, fit-turned, news-length}
 
@@ -41,10 +35,10 @@ decide x y = go (eqb x y) refl
     go false e = no (eqb-false x y e)
 
 -- an answer is one of the kinds
-pub within : (x : Outcome Way) (m t k u : ℕ) → x ≡ answered (inside m t) → x ≡ answered (inside k u) → (m ≡ k) × (t ≡ u)
+pub within : (x : Outcome Answer) (m t k u : ℕ) → x ≡ answered (inside m t) → x ≡ answered (inside k u) → (m ≡ k) × (t ≡ u)
 within x m t k u p q = (cc, cc)
 
-pub never : {A : Type 0} (x : Outcome Way) (m t : ℕ) → x ≡ answered (inside m t) → ((k : ℕ) → x ≡ answered (leaves k) → A) × ((k : ℕ) → x ≡ refused k → A)
+pub never : {A : Type 0} (x : Outcome Answer) (m t : ℕ) → x ≡ answered (inside m t) → ((k : ℕ) → x ≡ answered (leaves k) → A) × ((k : ℕ) → x ≡ refused k → A)
 never x m t p = (λ k q. absurd (let z : _≡_ {A = ℕ} 0 1 = cc in omega arith), λ k q. absurd (let z : _≡_ {A = ℕ} 0 1 = cc in omega arith))
 
 -- the five ways through the step
@@ -149,7 +143,7 @@ finer : (n way : ℕ) → 1 ≤ way → carryOf n way ≡ 0 → 1 ≤ resOf n
 unfolding carryOf
 finer n way l z = ⊎-elim (λ (q : resOf n ≡ 0). absurd (let c = off n (resOf n) way q in let d = z in omega arith)) (λ (q : 0 < resOf n). q) (eq-zero-or-pos (resOf n))
 
-unrefused : {A : Type 0} (x : Outcome Way) → x ≡ refused 17 → (w : Way) → x ≡ answered w → A
+unrefused : {A : Type 0} (x : Outcome Answer) → x ≡ refused 17 → (w : Answer) → x ≡ answered w → A
 unrefused x p w q = absurd (let z : _≡_ {A = ℕ} 0 1 = cc in omega arith)
 
 pub deleted-way : (n way : ℕ) → Valid n → 1 ≤ way → way < 7 → (stepOf n way ≡ refused 17) ↔ (Pentagon n × (way ≡ 1))

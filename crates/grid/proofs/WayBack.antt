@@ -15,16 +15,16 @@ use Rattle.plane.specs.declared.ijk.IJ.{IJ}
 use Rattle.plane.proofs.Every.{every, at, at-eq}
 use Rattle.plane.proofs.Whole.{whole, diffs, equal-eq}
 use Rattle.plane.proofs.Pairs.{_⊕_, down-ij, ij-plus, ij-down7, ij-same, same-ij}
-use Rattle.index.specs.Layout.{baseOf, resOf, isPentagonal, Valid}
+use Rattle.index.specs.Layout.{baseOf, isPentagonal, Valid}
 use Rattle.index.specs.View.{used, pack, first, Fit}
-use Rattle.index.specs.Refusals.{Outcome, answered, refused}
+use Rattle.index.specs.Refusals.{answered}
 use Rattle.index.proofs.Turning.{length-turned, first-turned, turned-undone}
 use Rattle.index.proofs.View.{fit, packed, pack-base, pack-res, pack-used}
 use Rattle.grid.specs.Tables.{newDigit, adjustment}
 use Rattle.grid.specs.Walks.{walked, leftOver, carryOf}
-use Rattle.grid.specs.Steps.{Way, inside, leaves, stepOf}
+use Rattle.grid.specs.Steps.{inside, stepOf}
 use Rattle.grid.proofs.Tables.{at-pair, adjusted-below}
-use Rattle.grid.proofs.Walks.{length-walked, digits-walked, walked-joint, walked-only}
+use Rattle.grid.proofs.Walks.{assoc, length-walked, digits-walked, walked-joint, walked-only}
 use Rattle.grid.proofs.Steps.{olds, news, staying, turning-ccw, turning-cw, fit-news, fit-turned}
 use Rattle.grid.proofs.Inside.{Case, left, stayed, deleted, ccw, cw, cases, within, never}
 
@@ -59,12 +59,6 @@ opposite d h =
     ap₂ pair
     (equal-eq (ij (unit d) .i +ℤ ij (unit (7 - d)) .i) (pos 0) (at 7 (λ (d : ℕ). equal (ij (unit d) .i +ℤ ij (unit (7 - d)) .i) (pos 0)) tt d h))
     (equal-eq (ij (unit d) .j +ℤ ij (unit (7 - d)) .j) (pos 0) (at 7 (λ (d : ℕ). equal (ij (unit d) .j +ℤ ij (unit (7 - d)) .j) (pos 0)) tt d h))
-
-assoc-law : (a b c : ℤ) → a +ℤ b +ℤ c ≡ a +ℤ (b +ℤ c)
-assoc-law a b c = rw (← whole a, ← whole b, ← whole c) (simp diffs (omega arith))
-
-assoc : (p q r : IJ) → p ⊕ q ⊕ r ≡ p ⊕ (q ⊕ r)
-assoc p q r = ap₂ pair (assoc-law (p .i) (q .i) (r .i)) (assoc-law (p .j) (q .j) (r .j))
 
 -- of strings
 pub walked-back : (ds : List ℕ) (way : ℕ) → Digits ds → 1 ≤ way → way < 7 → leftOver ds way ≡ 0 → (ds ≡ walked (walked ds way) (7 - way)) × (0 ≡ leftOver (walked ds way) (7 - way))
