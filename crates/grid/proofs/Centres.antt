@@ -1,15 +1,13 @@
 -- The centre of a cell digit by digit, and how large the points on the way are. Assumes nothing.
-use mathlib.Core.Path.{_≡_, refl, sym, ap, ap₂, _∙_, subst}
+use mathlib.Core.Path.{_≡_, sym, ap, ap₂, _∙_, subst}
 use mathlib.Core.Bool.{Bool}
-use mathlib.Core.List.{List, [], _∷_}
-use Prim.Native.Nat.{ℕ, zero, suc, _+_, _*_, _<_, _≤_}
+use Prim.Native.Nat.{ℕ, suc, _+_, _*_, _<_, _≤_}
 use native.Mathlib.Numerals.{add-one}
 use native.Mathlib.Omega.{arith}
-use lib.ListN.{length}
-use Rattle.plane.specs.Directions.{vec, unit}
+use Rattle.plane.specs.Directions.{unit}
 use Rattle.plane.specs.Points.{normal, plus, down7}
 use Rattle.plane.specs.Ranges.{Within}
-use Rattle.plane.specs.Strings.{Digits, odd, centre}
+use Rattle.plane.specs.Strings.{odd, centre}
 use Rattle.plane.specs.declared.ijk.IJK.{IJK}
 use Rattle.plane.proofs.Centres.{plus-normal}
 use Rattle.plane.proofs.Sizes.{Box, box-normal, box-down, size, size-small, box-centre, box-within}

@@ -1,35 +1,29 @@
 -- What the step's answers mean: an answer inside is a cell of the same base cell and resolution; no origin but those of first digit 3 or 5, or the
 -- pentagon itself, reaches the deleted digits; refusal 17 is given exactly for a pentagon of resolution 1 or finer in direction 1; resolution 0 is
 -- always left; a step with turn number 0 has a way back. Assumes nothing.
-use mathlib.Core.Path.{_≡_, refl, sym, ap, ap₂, _∙_, subst}
-use mathlib.Core.Bool.{Bool, true, false, cond, true≢false}
+use mathlib.Core.Path.{_≡_, refl, sym, ap, _∙_, subst}
+use mathlib.Core.Bool.{Bool, true, false, true≢false}
 use mathlib.Core.Logic.{_⊎_, inl, inr, ⊎-elim, _↔_}
-use mathlib.Core.List.{List, [], _∷_, map}
-use Prim.Native.Nat.{ℕ, zero, suc, _+_, _-_, _^_, _<_, _≤_}
+use mathlib.Core.List.{List, _∷_, map}
+use Prim.Native.Nat.{ℕ, zero, suc, _-_, _<_, _≤_}
 use native.Mathlib.Nat.{eq-zero-or-pos}
 use native.Mathlib.Omega.{arith}
-use lib.Dec.{T, eqb, lit<}
-use lib.IntN.{ℤ, pos, _+ℤ_}
+use lib.Dec.{eqb, lit<}
 use lib.ListN.{length}
 use borrow.Author.Tests.{eqb-true, eqb-false}
-use Rattle.plane.specs.Directions.{unit, turns}
-use Rattle.plane.specs.Points.{Same, equal, pair, ij, plus}
-use Rattle.plane.specs.Strings.{Digits, odd, centre, carried, joint}
-use Rattle.plane.specs.declared.ijk.IJ.{IJ}
+use Rattle.plane.specs.Directions.{turns}
+use Rattle.plane.specs.Strings.{Digits, odd}
 use Rattle.plane.proofs.Every.{at}
-use Rattle.plane.proofs.Whole.{whole, diffs, equal-eq}
-use Rattle.plane.proofs.Pairs.{_⊕_, down-ij, ij-plus, ij-down7, ij-same, same-ij}
 use Rattle.index.specs.Layout.{digit, baseOf, resOf, isPentagonal, firstOf, Valid}
 use Rattle.index.specs.View.{used, pack, first, Fit}
 use Rattle.index.specs.Refusals.{Outcome, answered, refused}
-use Rattle.index.proofs.Runs.{length-used}
 use Rattle.index.proofs.Turning.{length-turned}
-use Rattle.index.proofs.View.{fit, packed, first-used, pack-valid, pack-base, pack-res, pack-used}
+use Rattle.index.proofs.View.{fit, first-used, pack-valid, pack-base, pack-res}
 use Rattle.grid.specs.Tables.{newDigit, adjustment}
 use Rattle.grid.specs.Walks.{walked, leftOver, carryOf}
-use Rattle.grid.specs.Steps.{Way, inside, leaves, stepOf}
+use Rattle.grid.specs.Steps.{Answer, inside, leaves, stepOf}
 use Rattle.grid.proofs.Tables.{from-zero}
-use Rattle.grid.proofs.Walks.{length-walked, digits-walked, walked-zero, walked-joint, walked-only}
+use Rattle.grid.proofs.Walks.{walked-zero}
 use Rattle.grid.proofs.Reached.{origins, from-zeros}
 use Rattle.grid.proofs.Steps.{olds, news, leaving, staying, refusing, turning-ccw, turning-cw, fit-news, fit-turned, news-length}
 
@@ -41,10 +35,10 @@ decide x y = go (eqb x y) refl
     go false e = no (eqb-false x y e)
 
 -- an answer is one of the kinds
-pub within : (x : Outcome Way) (m t k u : ℕ) → x ≡ answered (inside m t) → x ≡ answered (inside k u) → (m ≡ k) × (t ≡ u)
+pub within : (x : Outcome Answer) (m t k u : ℕ) → x ≡ answered (inside m t) → x ≡ answered (inside k u) → (m ≡ k) × (t ≡ u)
 within x m t k u p q = (cc, cc)
 
-pub never : {A : Type 0} (x : Outcome Way) (m t : ℕ) → x ≡ answered (inside m t) → ((k : ℕ) → x ≡ answered (leaves k) → A) × ((k : ℕ) → x ≡ refused k → A)
+pub never : {A : Type 0} (x : Outcome Answer) (m t : ℕ) → x ≡ answered (inside m t) → ((k : ℕ) → x ≡ answered (leaves k) → A) × ((k : ℕ) → x ≡ refused k → A)
 never x m t p = (λ k q. absurd (let z : _≡_ {A = ℕ} 0 1 = cc in omega arith), λ k q. absurd (let z : _≡_ {A = ℕ} 0 1 = cc in omega arith))
 
 -- the five ways through the step
@@ -52,8 +46,8 @@ pub data Case (n way : ℕ) : Type 0 where
   left : (carryOf n way ≡ 0 → ⊥) → stepOf n way ≡ answered (leaves (carryOf n way)) → Case n way
   stayed : carryOf n way ≡ 0 → (isPentagonal (baseOf n) ≡ true → first (news n way) ≡ 1 → ⊥) → stepOf n way ≡ answered (inside (pack (baseOf n) (news n way)) 0) → Case n way
   deleted : carryOf n way ≡ 0 → isPentagonal (baseOf n) ≡ true → first (news n way) ≡ 1 → first (olds n) ≡ 0 → stepOf n way ≡ refused 17 → Case n way
-  ccw : first (news n way) ≡ 1 → first (olds n) ≡ 3 → stepOf n way ≡ answered (inside (pack (baseOf n) (map (turns true 1) (news n way))) 1) → Case n way
-  cw : first (news n way) ≡ 1 → first (olds n) ≡ 5 → stepOf n way ≡ answered (inside (pack (baseOf n) (map (turns false 1) (news n way))) 5) → Case n way
+  ccw : carryOf n way ≡ 0 → isPentagonal (baseOf n) ≡ true → first (news n way) ≡ 1 → first (olds n) ≡ 3 → stepOf n way ≡ answered (inside (pack (baseOf n) (map (turns true 1) (news n way))) 1) → Case n way
+  cw : carryOf n way ≡ 0 → isPentagonal (baseOf n) ≡ true → first (news n way) ≡ 1 → first (olds n) ≡ 5 → stepOf n way ≡ answered (inside (pack (baseOf n) (map (turns false 1) (news n way))) 5) → Case n way
 
 module _ (n way : ℕ) (v : Valid n) (hw : way < 7) where
   -- no other origin reaches the deleted digits
@@ -63,8 +57,8 @@ module _ (n way : ℕ) (v : Valid n) (hw : way < 7) where
 
   reached : carryOf n way ≡ 0 → isPentagonal (baseOf n) ≡ true → first (news n way) ≡ 1 → (first (olds n) ≡ 0) ⊎ ((first (olds n) ≡ 3) ⊎ (first (olds n) ≡ 5)) → Case n way
   reached z p g (inl e) = deleted z p g e (refusing n way z p g e)
-  reached z p g (inr (inl e)) = ccw g e (turning-ccw n way z p g e)
-  reached z p g (inr (inr e)) = cw g e (turning-cw n way z p g (λ q. omega arith) (λ q. omega arith))
+  reached z p g (inr (inl e)) = ccw z p g e (turning-ccw n way z p g e)
+  reached z p g (inr (inr e)) = cw z p g e (turning-cw n way z p g (λ q. omega arith) (λ q. omega arith))
 
   first-one : carryOf n way ≡ 0 → isPentagonal (baseOf n) ≡ true → Dec (first (news n way) ≡ 1) → Case n way
   first-one z p (yes g) = reached z p g (no-other z p g)
@@ -98,8 +92,8 @@ module _ (n way : ℕ) (v : Valid n) (hw : way < 7) where
       go (left f s) = never (stepOf n way) m t e .0 (carryOf n way) s
       go (stayed z k s) = packs m (news n way) (fit-news n way v hw k) (news-length n way v hw) (within (stepOf n way) _ 0 m t s e .0)
       go (deleted z p g f s) = never (stepOf n way) m t e .1 17 s
-      go (ccw g f s) = packs m (map (turns true 1) (news n way)) (fit-turned n way v hw true g) (length-turned true 1 (news n way) ∙ news-length n way v hw) (within (stepOf n way) _ 1 m t s e .0)
-      go (cw g f s) = packs m (map (turns false 1) (news n way)) (fit-turned n way v hw false g) (length-turned false 1 (news n way) ∙ news-length n way v hw) (within (stepOf n way) _ 5 m t s e .0)
+      go (ccw z p g f s) = packs m (map (turns true 1) (news n way)) (fit-turned n way v hw true g) (length-turned true 1 (news n way) ∙ news-length n way v hw) (within (stepOf n way) _ 1 m t s e .0)
+      go (cw z p g f s) = packs m (map (turns false 1) (news n way)) (fit-turned n way v hw false g) (length-turned false 1 (news n way) ∙ news-length n way v hw) (within (stepOf n way) _ 5 m t s e .0)
 
 -- a string of zeros, in direction 1
 all-zero : (d : ℕ) (ds : List ℕ) → first (d ∷ ds) ≡ 0 → (d ≡ 0) × (first ds ≡ 0)
@@ -149,7 +143,7 @@ finer : (n way : ℕ) → 1 ≤ way → carryOf n way ≡ 0 → 1 ≤ resOf n
 unfolding carryOf
 finer n way l z = ⊎-elim (λ (q : resOf n ≡ 0). absurd (let c = off n (resOf n) way q in let d = z in omega arith)) (λ (q : 0 < resOf n). q) (eq-zero-or-pos (resOf n))
 
-unrefused : {A : Type 0} (x : Outcome Way) → x ≡ refused 17 → (w : Way) → x ≡ answered w → A
+unrefused : {A : Type 0} (x : Outcome Answer) → x ≡ refused 17 → (w : Answer) → x ≡ answered w → A
 unrefused x p w q = absurd (let z : _≡_ {A = ℕ} 0 1 = cc in omega arith)
 
 pub deleted-way : (n way : ℕ) → Valid n → 1 ≤ way → way < 7 → (stepOf n way ≡ refused 17) ↔ (Pentagon n × (way ≡ 1))
@@ -169,5 +163,5 @@ deleted-way n way v l hw = (
       record { base = p; zeros = sym (first-used n (resOf n)) ∙ f; finer = finer n way l z },
       from-zeros (olds n) way (fit n v .digits) hw z g f,
     )
-    go e (ccw g f s) = unrefused (stepOf n way) e _ s
-    go e (cw g f s) = unrefused (stepOf n way) e _ s
+    go e (ccw z p g f s) = unrefused (stepOf n way) e _ s
+    go e (cw z p g f s) = unrefused (stepOf n way) e _ s

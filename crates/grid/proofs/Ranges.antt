@@ -1,5 +1,5 @@
 -- A cell's centre lies within the entry range. Two downs, one of each sense, are seven times the point: so two digits at a time. Assumes nothing.
-use mathlib.Core.Path.{_≡_, refl, sym, ap, ap₂, _∙_, subst}
+use mathlib.Core.Path.{_≡_, sym, ap, ap₂, _∙_, subst}
 use mathlib.Core.Bool.{Bool, true, false, not}
 use mathlib.Core.List.{List, [], _∷_}
 use Prim.Native.Nat.{ℕ, zero, suc, _+_, _*_, _<_, _≤_}
@@ -8,10 +8,9 @@ use lib.Dec.{T, le→leb, lit≤}
 use lib.IntN.{ℤ, pos, natAbs, _+ℤ_, _-ℤ_, _*ℤ_}
 use lib.ListN.{length}
 use Rattle.plane.specs.Directions.{unit}
-use Rattle.plane.specs.Points.{pair, ij, normal}
-use Rattle.plane.specs.Ranges.{in-range, point-in-range, Within, Broad}
+use Rattle.plane.specs.Points.{pair, ij}
+use Rattle.plane.specs.Ranges.{in-range, point-in-range, Within}
 use Rattle.plane.specs.Strings.{Digits, odd, centre}
-use Rattle.plane.specs.declared.ijk.IJK.{IJK}
 use Rattle.plane.specs.declared.ijk.IJ.{IJ}
 use Rattle.plane.proofs.Every.{at-le, both}
 use Rattle.plane.proofs.Whole.{whole, diffs}
@@ -21,10 +20,8 @@ use Rattle.plane.proofs.Centres.{down-add, ij-centre, centre-normal}
 use Rattle.plane.proofs.Sizes.{normal-within}
 use Rattle.index.specs.Layout.{resOf, Valid}
 use Rattle.index.specs.View.{used}
-use Rattle.index.proofs.Runs.{length-used}
 use Rattle.index.proofs.View.{fit}
 use Rattle.grid.specs.Centres.{centreOf}
-use Rattle.grid.proofs.Centres.{within-more}
 
 module _ (x y : ℤ) where
   law-1 : pos 3 *ℤ (pos 2 *ℤ x +ℤ y) -ℤ (pos 3 *ℤ y -ℤ x) ≡ pos 7 *ℤ x

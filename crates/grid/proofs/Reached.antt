@@ -1,15 +1,14 @@
 -- Which first digits a walk that leaves nothing over can have, before and after: no string whose first digit is 2, 4 or 6 becomes one whose first
 -- digit is 1, and a string of zeros does only in direction 1. By a test of three numbers that each digit keeps. Assumes nothing.
-use mathlib.Core.Path.{_≡_, refl, sym, ap, ap₂, _∙_, subst}
+use mathlib.Core.Path.{_≡_, sym, subst}
 use mathlib.Core.Bool.{Bool, true, false, not, cond, _||_}
 use mathlib.Core.Logic.{_⊎_, inl, inr}
 use mathlib.Core.List.{List, [], _∷_}
-use Prim.Native.Nat.{ℕ, zero, suc, _+_, _%_, _<_}
-use native.Mathlib.Omega.{arith}
-use lib.Dec.{T, eqb, eqb→eq, lit<}
+use Prim.Native.Nat.{ℕ, suc, _+_, _%_, _<_}
+use lib.Dec.{T, eqb, eqb→eq}
 use lib.ListN.{length}
 use Rattle.plane.specs.Strings.{Digits, odd}
-use Rattle.plane.proofs.Every.{every, at}
+use Rattle.plane.proofs.Every.{every}
 use Rattle.index.specs.View.{first}
 use Rattle.index.proofs.Turning.{first-below}
 use Rattle.grid.specs.Tables.{newDigit, adjustment}

@@ -1,32 +1,30 @@
 -- Reading a centre back, one digit at a time: the point q, its up, and the digit that is left. A string has the point q exactly where its finest
 -- digit is that one and the rest has the point up. Assumes nothing.
 use mathlib.Core.Path.{_≡_, refl, sym, ap, ap₂, _∙_, subst}
-use mathlib.Core.Bool.{Bool, true, false}
+use mathlib.Core.Bool.{Bool}
 use mathlib.Core.List.{List, [], _∷_}
 use Prim.Native.Nat.{ℕ, zero, suc, _+_, _-_, _*_, _/_, _%_, _^_, _<_, _≤_}
 use native.Mathlib.Nat.{div-one}
 use native.Mathlib.Omega.{arith}
-use lib.Dec.{T, lit<}
 use lib.IntN.{ℤ, pos, natAbs, _+ℤ_, _-ℤ_}
 use lib.ListN.{length}
 use Rattle.plane.specs.Directions.{triple, vec, unit}
-use Rattle.plane.specs.Points.{normal, Same, same, pair, ij, of-ij, plus, minus, down7, up7, direction, direction-of}
+use Rattle.plane.specs.Points.{normal, Same, pair, ij, plus, minus, down7, up7, direction, direction-of}
 use Rattle.plane.specs.Ranges.{Within, Broad}
-use Rattle.plane.specs.Strings.{Digits, odd, centre}
+use Rattle.plane.specs.Strings.{odd, centre}
 use Rattle.plane.specs.declared.ijk.IJK.{IJK}
 use Rattle.plane.specs.declared.ijk.IJ.{IJ}
-use Rattle.plane.specs.declared.ijk.Way.{Way}
-use Rattle.plane.specs.declared.ijk.Way.the-variants.{Found, NotUnit}
+use Rattle.plane.specs.declared.ijk.Way.the-variants.{Found}
 use Rattle.plane.proofs.Whole.{whole, diffs}
 use Rattle.plane.proofs.Bounds.{within-minus, within-broad}
 use Rattle.plane.proofs.Pairs.{_⊕_, _⊖_, ij-plus, ij-minus, ij-normal, ij-same, same-ij}
-use Rattle.plane.proofs.Normal.{normal-same, same-test}
+use Rattle.plane.proofs.Normal.{normal-same}
 use Rattle.plane.proofs.Units.{direction-found}
 use Rattle.plane.proofs.Ups.{up-ij, some-way}
-use Rattle.plane.proofs.Centres.{same-under, up-centre, one-centre}
+use Rattle.plane.proofs.Centres.{same-under, up-centre}
 use Rattle.plane.proofs.Sizes.{normal-within, up-broad, under-broad}
-use Rattle.index.specs.Layout.{digit, topBit, modeOf, reservedOf, resOf, baseOf, isPentagonal, among, Valid}
-use Rattle.index.specs.View.{used, pack, Fit}
+use Rattle.index.specs.Layout.{digit, topBit, modeOf, reservedOf, resOf, baseOf, Valid}
+use Rattle.index.specs.View.{used, pack}
 use Rattle.index.specs.Refusals.{Outcome, answered, refused}
 use Rattle.index.specs.Written.{Written, WithDigits}
 use Rattle.index.proofs.Runs.{run, length-used, sevens-back}

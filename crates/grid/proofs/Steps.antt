@@ -1,39 +1,26 @@
--- The step of a cell: an answer inside is a cell of the same base cell and resolution; no origin but those of first digit 3 or 5, or the pentagon
--- itself, reaches the deleted digits; refusal 17 is given exactly for a pentagon of resolution 1 or finer in direction 1; a step that turns nothing
--- has a way back. Assumes nothing.
-use mathlib.Core.Path.{_≡_, refl, sym, ap, ap₂, _∙_, subst}
-use mathlib.Core.Bool.{Bool, true, false, not, cond, _&&_, true≢false}
-use mathlib.Core.Logic.{_⊎_, inl, inr, ⊎-elim, _↔_}
-use mathlib.Core.List.{List, [], _∷_, map}
-use Prim.Native.Nat.{ℕ, zero, suc, _+_, _-_, _*_, _/_, _^_, _<_, _≤_}
-use native.Mathlib.Nat.{eq-zero-or-pos}
+-- The ways through the step's definition, and the new digits of a cell: with them, turned or not, the answer is a cell. Assumes nothing.
+use mathlib.Core.Path.{_≡_, refl, sym, ap, _∙_, subst}
+use mathlib.Core.Bool.{Bool, true, false, cond, _&&_}
+use mathlib.Core.List.{List, map}
+use Prim.Native.Nat.{ℕ, _-_, _^_, _<_, _≤_}
 use native.Mathlib.Omega.{arith}
-use lib.Dec.{T, eqb, lit<}
-use lib.IntN.{ℤ, pos, _+ℤ_}
+use lib.Dec.{eqb}
 use lib.ListN.{length}
 use borrow.Author.Tests.{eq-eqb, ne-eqb}
-use Rattle.plane.specs.Directions.{unit, turns}
-use Rattle.plane.specs.Points.{Same, equal, pair, ij, plus}
-use Rattle.plane.specs.Strings.{Digits, odd, centre, carried, joint}
-use Rattle.plane.specs.declared.ijk.IJ.{IJ}
-use Rattle.plane.proofs.Every.{at}
-use Rattle.plane.proofs.Whole.{whole, diffs, equal-eq}
-use Rattle.plane.proofs.Pairs.{_⊕_, down-ij, ij-plus, ij-down7, ij-same, same-ij}
-use Rattle.index.specs.Layout.{digit, baseOf, resOf, isPentagonal, firstOf, Valid}
+use Rattle.plane.specs.Directions.{turns}
+use Rattle.plane.specs.Strings.{Digits}
+use Rattle.index.specs.Layout.{baseOf, resOf, isPentagonal, firstOf, Valid}
 use Rattle.index.specs.View.{used, pack, first, Fit}
-use Rattle.index.specs.Refusals.{Outcome, answered, refused}
+use Rattle.index.specs.Refusals.{answered, refused}
 use Rattle.index.specs.Written.{WithDigits}
 use Rattle.index.proofs.Runs.{length-used}
-use Rattle.index.proofs.View.{fit, packed, first-used, pack-valid, pack-base, pack-res, pack-used, pack-fits}
+use Rattle.index.proofs.View.{fit, first-used}
 use Rattle.index.proofs.Redrawn.{redrawn-cell, redrawn-twice}
 use Rattle.index.proofs.Loose.{loose-used, loose-res}
 use Rattle.index.proofs.Turning.{length-turned, digits-turned, first-turned}
-use Rattle.grid.specs.Tables.{newDigit, adjustment}
-use Rattle.grid.specs.Walks.{walked, leftOver, walkedOf, carryOf}
-use Rattle.grid.specs.Steps.{Way, inside, leaves, outOfDeleted, staysIn, stepOf}
-use Rattle.grid.proofs.Tables.{from-zero}
-use Rattle.grid.proofs.Walks.{length-walked, digits-walked, walked-zero, walked-joint, walked-only, walk-moved}
-use Rattle.grid.proofs.Reached.{origins, from-zeros}
+use Rattle.grid.specs.Walks.{walked, walkedOf, carryOf}
+use Rattle.grid.specs.Steps.{inside, leaves, outOfDeleted, staysIn, stepOf}
+use Rattle.grid.proofs.Walks.{length-walked, digits-walked, walk-moved}
 
 -- the old and the new digits
 abbrev pub olds : ℕ → List ℕ

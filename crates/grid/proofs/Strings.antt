@@ -4,9 +4,8 @@ use mathlib.Core.Path.{_≡_, refl, sym, ap, _∙_, subst}
 use mathlib.Core.List.{List}
 use Prim.Native.Nat.{ℕ, _≤_}
 use native.Mathlib.Omega.{arith}
-use lib.ListN.{length}
-use Rattle.plane.specs.Points.{normal, Same}
-use Rattle.plane.specs.Strings.{Digits, centre}
+use Rattle.plane.specs.Points.{normal}
+use Rattle.plane.specs.Strings.{centre}
 use Rattle.plane.specs.declared.ijk.IJK.{IJK}
 use Rattle.plane.proofs.Normal.{normal-same}
 use Rattle.plane.proofs.Centres.{one-centre, centre-normal}

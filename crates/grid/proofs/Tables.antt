@@ -3,7 +3,7 @@
 use mathlib.Core.Path.{_≡_, sym, _∙_}
 use mathlib.Core.Bool.{Bool, true, false}
 use Prim.Native.Nat.{ℕ, _<_}
-use lib.Dec.{T, eqb, eqb→eq, ltb, ltb→lt}
+use lib.Dec.{T, ltb, ltb→lt}
 use Rattle.plane.specs.Directions.{unit}
 use Rattle.plane.specs.Points.{same, plus, down7}
 use Rattle.plane.proofs.Every.{every, at, at-eq}

@@ -1,7 +1,7 @@
 -- The walk's string and carry have as joint point the old centre moved by the direction, and no other pair of a string of that length and a
 -- carry has that point: of strings, and of the walk's two numbers. Assumes nothing.
 use mathlib.Core.Path.{_≡_, refl, sym, ap, ap₂, _∙_, subst, _≡⟨_⟩_, _∎}
-use mathlib.Core.Bool.{Bool, true, false}
+use mathlib.Core.Bool.{Bool}
 use mathlib.Core.List.{List, [], _∷_}
 use Prim.Native.Nat.{ℕ, zero, suc, _+_, _-_, _*_, _/_, _^_, _<_, _≤_}
 use native.Mathlib.Omega.{arith}
@@ -9,7 +9,7 @@ use lib.IntN.{ℤ, _+ℤ_}
 use lib.ListN.{length}
 use Rattle.plane.specs.Directions.{vec, unit}
 use Rattle.plane.specs.Points.{Same, pair, ij, plus, down7}
-use Rattle.plane.specs.Strings.{Digits, odd, centre, carried, joint}
+use Rattle.plane.specs.Strings.{Digits, odd, centre, joint}
 use Rattle.plane.specs.declared.ijk.IJK.{IJK}
 use Rattle.plane.specs.declared.ijk.IJ.{IJ}
 use Rattle.plane.proofs.Whole.{whole, diffs}
@@ -17,12 +17,12 @@ use Rattle.plane.proofs.Pairs.{_⊕_, down-ij, ij-plus, ij-down7, ij-same, same
 use Rattle.plane.proofs.Centres.{down-add, joint-step, one-joint}
 use Rattle.index.specs.Layout.{digit, baseOf, resOf, Valid}
 use Rattle.index.specs.View.{used, pack}
-use Rattle.index.specs.Written.{Written, WithDigits}
+use Rattle.index.specs.Written.{Written}
 use Rattle.index.proofs.Runs.{length-used}
 use Rattle.index.proofs.View.{fit, packed}
 use Rattle.index.proofs.Loose.{loose-used, loose-rest, loose-upper}
 use Rattle.index.proofs.Redrawn.{used-same, redrawn-cell}
-use Rattle.grid.specs.Tables.{newDigit, adjustment, Rule}
+use Rattle.grid.specs.Tables.{newDigit, adjustment}
 use Rattle.grid.specs.Walks.{walked, leftOver, walkedOf, carryOf, Moved}
 use Rattle.grid.proofs.Tables.{digit-below, adjusted-below, rule, stays}
 
@@ -48,7 +48,7 @@ walked-zero (d ∷ ds) h =
 assoc-law : (a b c : ℤ) → a +ℤ b +ℤ c ≡ a +ℤ (b +ℤ c)
 assoc-law a b c = rw (← whole a, ← whole b, ← whole c) (simp diffs (omega arith))
 
-assoc : (p q r : IJ) → p ⊕ q ⊕ r ≡ p ⊕ (q ⊕ r)
+pub assoc : (p q r : IJ) → p ⊕ q ⊕ r ≡ p ⊕ (q ⊕ r)
 assoc p q r = ap₂ pair (assoc-law (p .i) (q .i) (r .i)) (assoc-law (p .j) (q .j) (r .j))
 
 -- one digit: d and c make way for the adjustment a and the new digit n

@@ -10,5 +10,5 @@ pub mod View
 pub mod Cut
 pub mod Write
 pub mod Redrawn
-pub mod Turning
 pub mod Loose
+pub mod Turning

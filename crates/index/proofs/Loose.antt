@@ -1,5 +1,5 @@
 -- What is packed of a base cell and digits 0 to 6 has them, also where refusal 7 names it. Assumes nothing.
-use mathlib.Core.Path.{_≡_, refl, sym, ap, _∙_, subst}
+use mathlib.Core.Path.{_≡_, sym, ap, _∙_, subst}
 use mathlib.Core.Bool.{true≢false}
 use mathlib.Core.List.{List}
 use Prim.Native.Nat.{ℕ, _+_, _-_, _*_, _/_, _%_, _^_, _≤_, _<_}
@@ -7,7 +7,7 @@ use native.Mathlib.Nat.{mod-lt}
 use native.Mathlib.Omega.{arith}
 use lib.ListN.{length}
 use Rattle.plane.specs.Strings.{Digits}
-use Rattle.index.specs.Layout.{digit, resOf, baseOf, isPentagonal, among, Valid}
+use Rattle.index.specs.Layout.{digit, resOf, baseOf, isPentagonal, among}
 use Rattle.index.specs.View.{used, pack, Fit}
 use Rattle.index.proofs.First.{digit-low}
 use Rattle.index.proofs.Sum.{sum, sum-base, sum-res, sum-fits}

@@ -1,8 +1,8 @@
 -- A number with other used digits: where the number it is made of is a cell, it is the same base cell and the new digits, packed.
 -- Assumes nothing.
 use mathlib.Core.Path.{_≡_, refl, sym, ap, ap₂, _∙_, subst}
-use mathlib.Core.List.{List, [], _∷_}
-use Prim.Native.Nat.{ℕ, zero, suc, _+_, _-_, _*_, _/_, _%_, _^_, _≤_, _<_}
+use mathlib.Core.List.{List, _∷_}
+use Prim.Native.Nat.{ℕ, zero, suc, _-_, _*_, _/_, _%_, _^_, _≤_, _<_}
 use native.Mathlib.Nat.{div-div-eq-div-mul, le-step}
 use native.Mathlib.Omega.{arith}
 use Rattle.index.specs.Layout.{digit, topBit, modeOf, reservedOf, resOf, baseOf, Valid}

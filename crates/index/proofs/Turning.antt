@@ -22,6 +22,7 @@ use Rattle.index.specs.Turns.{turnedBy, pentagonCount, pentagonTurned}
 use Rattle.index.proofs.Runs.{length-used}
 use Rattle.index.proofs.View.{packed, fit, pack-valid, pack-res, pack-base}
 use Rattle.index.proofs.Redrawn.{used-same}
+use Rattle.index.proofs.Loose.{loose-base, loose-res, loose-used}
 
 -- strings
 pub length-turned : (o : Bool) (k : ℕ) (ds : List ℕ) → length (map (turns o k) ds) ≡ length ds
@@ -136,6 +137,28 @@ module _ (o : Bool) (n : ℕ) (v : Valid n) where
         digits = digits-turned o k ds (f .digits);
         kept = λ q e. kept q (sym (first-turned o k ds (f .digits)) ∙ e);
       }
+
+  -- also where refusal 7 names it, the turned number has the base cell, the resolution and the turned digits
+  module _ (k : ℕ) where
+    room : length (map (turns o k) ds) ≤ 15
+    room = rw length-turned (fit n v .short)
+
+    base-room : baseOf n ≤ 127
+    base-room = omega (arith, v .base)
+
+    pub turned-base : baseOf (turnedBy o k n) ≡ baseOf n
+    unfolding turnedBy
+    turned-base = loose-base (baseOf n) (map (turns o k) ds) base-room room (digits-turned o k ds (fit n v .digits))
+
+    pub turned-res : resOf (turnedBy o k n) ≡ resOf n
+    unfolding turnedBy
+    turned-res = loose-res (baseOf n) (map (turns o k) ds) base-room room (digits-turned o k ds (fit n v .digits)) ∙ length-turned o k ds ∙ length-used n (resOf n)
+
+    pub turned-used : used (turnedBy o k n) (resOf n) ≡ map (turns o k) ds
+    unfolding turnedBy
+    turned-used =
+        subst (λ (r : ℕ). used (pack (baseOf n) (map (turns o k) ds)) r ≡ map (turns o k) ds) (length-turned o k ds ∙ length-used n (resOf n))
+        (loose-used (baseOf n) (map (turns o k) ds) base-room room (digits-turned o k ds (fit n v .digits)))
 
   pub fit-pentagon-turned : Fit (baseOf n) (map (turns o (pentagonCount o ds)) ds)
   fit-pentagon-turned = fit-turned (pentagonCount o ds) (λ q. pentagon-first o (first ds) (first-below ds (fit n v .digits)))

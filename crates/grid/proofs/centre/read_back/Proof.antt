@@ -1,13 +1,13 @@
 -- `grid::centre::read_back` meets its contract, by the loop's laws in `Reading`. Assumes nothing.
 use borrow.Author.Needs.{needs}
-use mathlib.Core.Path.{_≡_, refl, sym, ap, _∙_, subst, subst₂}
-use mathlib.Core.Bool.{Bool, true, false, true≢false}
+use mathlib.Core.Path.{_≡_, sym, ap, _∙_, subst, subst₂}
+use mathlib.Core.Bool.{Bool, true, false}
 use Prim.Native.Nat.{ℕ, _+_, _-_, _*_, _^_, _<_, _≤_}
 use native.Mathlib.Omega.{arith}
 use lib.Dec.{T}
 use Rattle.plane.specs.Directions.{vec, unit}
 use Rattle.plane.specs.Points.{normal, Same, same, plus, down7, up7}
-use Rattle.plane.specs.Ranges.{Within, Broad}
+use Rattle.plane.specs.Ranges.{Within}
 use Rattle.plane.specs.Strings.{odd}
 use Rattle.plane.specs.declared.ijk.IJK.{IJK}
 use Rattle.plane.proofs.Normal.{normal-same, same-test}

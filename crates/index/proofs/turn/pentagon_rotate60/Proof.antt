@@ -3,11 +3,9 @@ use borrow.Author.Needs.{needs}
 use mathlib.Core.Path.{_≡_, sym, ap, _∙_}
 use mathlib.Core.Bool.{Bool, cond}
 use Prim.Native.Nat.{ℕ}
-use lib.Dec.{eqb}
 use borrow.Author.Tests.{eq-eqb, ne-eqb}
 use Rattle.index.specs.Layout.{resOf, firstOf}
-use Rattle.index.specs.View.{used}
-use Rattle.index.specs.Turns.{turnedBy, pentagonCount, pentagonTurned}
+use Rattle.index.specs.Turns.{turnedBy, pentagonTurned}
 use Rattle.index.proofs.View.{first-used}
 use Rattle.index.proofs.turn.pentagon_rotate60.Statement.{statement}
 use Rattle.index.proofs.turn.pentagon_rotate60.Tie as tie

@@ -1,6 +1,6 @@
 -- `index::turn::turn_digits` meets its contract, by the loop's laws in `Turning`. Assumes nothing.
 use borrow.Author.Needs.{needs}
-use mathlib.Core.Path.{_≡_, sym, ap, _∙_, subst}
+use mathlib.Core.Path.{_≡_}
 use Prim.Native.Nat.{ℕ, _+_, _-_, _≤_, _<_}
 use native.Mathlib.Omega.{arith}
 use Rattle.plane.specs.Strings.{Digits}
