@@ -1,14 +1,14 @@
 -- What an entry learns of a direction and of a point that were judged. Assumes nothing.
 use mathlib.Core.Path.{_≡_, refl, sym, ap, _∙_, subst}
-use mathlib.Core.Bool.{Bool, true, false, not, cond}
+use mathlib.Core.Bool.{Bool, true, false, not, cond, _||_, true≢false}
 use mathlib.Core.List.{List, [], _∷_}
 use Prim.Native.Nat.{ℕ, _≤_, _<_}
 use native.Mathlib.Nat.{suc-ne-zero}
 use native.Mathlib.Omega.{arith}
 use denote.Enum.Declared
 use types.Run
-use lib.Dec.{T, ltb}
-use borrow.Author.Tests.{ltb-false}
+use lib.Dec.{T, eqb, ltb}
+use borrow.Author.Tests.{ltb-false, eqb-false}
 use Rattle.index.specs.Refusals.{Rule, Outcome, answered, refused, judged}
 use Rattle.index.proofs.Rules.{past, hit, none-answered}
 use Rattle.plane.specs.Ranges.{point-in-range, Within}
@@ -21,26 +21,41 @@ use Rattle.hex.proofs.judge.Place as place-type
 use Rattle.hex.specs.declared.judge.Heading.{Heading}
 use Rattle.hex.specs.declared.judge.Place.{Place}
 
-abbrev pub headingOf : ℕ → Heading
-headingOf d = cond (ltb 6 d) Heading.Nowhere (Heading.To (record { 0 = d }))
-
 abbrev pub placeOf : IJK → Place
 placeOf t = cond (point-in-range t) (Place.Within t) Place.Outside
 
--- a direction that was judged: its number, and that the rule lets it through
-pub to : (d : ℕ) (a : Heading) (x : Direction) → a ≡ Heading.To x → a ≡ headingOf d → (x .0 ≡ d) × (d < 7) × (ltb 6 d ≡ false)
-to d a x p q = go (ltb 6 d) refl (sym q ∙ p)
-  where
-    go : (t : Bool) → ltb 6 d ≡ t → cond t Heading.Nowhere (Heading.To (record { 0 = d })) ≡ Heading.To x → (x .0 ≡ d) × (d < 7) × (t ≡ false)
-    go true e r = let z : _≡_ {A = ℕ} 0 1 = cc in absurd (suc-ne-zero 0 (sym z))
-    go false e r = let z : _≡_ {A = Direction} (record { 0 = d }) x = cc in (sym (ap (λ (y : Direction). y .0) z), omega (arith, ltb-false 6 d e), refl)
+-- a direction that was judged by a test: its number, and what the test said
+module _ (d : ℕ) where
+  abbrev pub headed : Bool → Heading
+  headed t = cond t Heading.Nowhere (Heading.To (record { 0 = d }))
 
-pub nowhere : (d : ℕ) (a : Heading) → Run.OneOf (1 ∷ []) (Declared.tagOf heading-type.the-type a) → a ≡ headingOf d → ltb 6 d ≡ true
-nowhere d a o e = go (ltb 6 d) (subst (λ (x : Heading). Run.OneOf (1 ∷ []) (Declared.tagOf heading-type.the-type x)) e o)
-  where
-    go : (t : Bool) → Run.OneOf (1 ∷ []) (Declared.tagOf heading-type.the-type (cond t Heading.Nowhere (Heading.To (record { 0 = d })))) → t ≡ true
-    go true o = refl
-    go false o = absurd (suc-ne-zero 0 (sym o))
+  passed : (t : Bool) (a : Heading) (x : Direction) → a ≡ Heading.To x → a ≡ headed t → (x .0 ≡ d) × (t ≡ false)
+  passed t a x p q = go t (sym q ∙ p)
+    where
+      go : (t : Bool) → headed t ≡ Heading.To x → (x .0 ≡ d) × (t ≡ false)
+      go true r = let z : _≡_ {A = ℕ} 0 1 = cc in absurd (suc-ne-zero 0 (sym z))
+      go false r = let z : _≡_ {A = Direction} (record { 0 = d }) x = cc in (sym (ap (λ (y : Direction). y .0) z), refl)
+
+  pub nowhere : (t : Bool) (a : Heading) → Run.OneOf (1 ∷ []) (Declared.tagOf heading-type.the-type a) → a ≡ headed t → t ≡ true
+  nowhere t a o e = go t (subst (λ (x : Heading). Run.OneOf (1 ∷ []) (Declared.tagOf heading-type.the-type x)) e o)
+    where
+      go : (t : Bool) → Run.OneOf (1 ∷ []) (Declared.tagOf heading-type.the-type (headed t)) → t ≡ true
+      go true o = refl
+      go false o = absurd (suc-ne-zero 0 (sym o))
+
+  pub to : (a : Heading) (x : Direction) → a ≡ Heading.To x → a ≡ headed (ltb 6 d) → (x .0 ≡ d) × (d < 7) × (ltb 6 d ≡ false)
+  to a x p q = let r = passed (ltb 6 d) a x p q in (r .0, omega (arith, ltb-false 6 d (r .1)), r .1)
+
+  pub to-onward : (a : Heading) (x : Direction) → a ≡ Heading.To x → a ≡ headed (eqb d 0 || ltb 6 d) → (x .0 ≡ d) × (1 ≤ d) × (d < 7) × (eqb d 0 || ltb 6 d ≡ false)
+  to-onward a x p q =
+      let r = passed (eqb d 0 || ltb 6 d) a x p q in
+      let z = either (eqb d 0) (ltb 6 d) (r .1) in
+      let n = eqb-false d 0 (z .0) in
+      (r .0, omega arith, omega (arith, ltb-false 6 d (z .1)), r .1)
+    where
+      either : (a b : Bool) → a || b ≡ false → (a ≡ false) × (b ≡ false)
+      either true b e = absurd (true≢false e)
+      either false b e = (refl, e)
 
 -- a point that was judged: it is the point handed in, and the rule lets it through
 module _ (t : IJK) where

@@ -6,6 +6,7 @@ use Rattle.index.specs.Refusals.{Outcome, answered, refused}
 use Rattle.plane.specs.declared.ijk.IJK.{IJK}
 use Rattle.plane.specs.declared.ijk.IJ.{IJ}
 use Rattle.children.specs.declared.children.Cursor.{Cursor}
+use Rattle.grid.specs.Steps.{Answer, inside, leaves}
 use Rattle.children.specs.declared.children.Given.{Given}
 use Rattle.hex.specs.declared.answers.Checked.{Checked}
 use Rattle.hex.specs.declared.answers.Number.{Number}
@@ -13,6 +14,8 @@ use Rattle.hex.specs.declared.answers.Truth.{Truth}
 use Rattle.hex.specs.declared.answers.Point.{Point}
 use Rattle.hex.specs.declared.answers.Pair.{Pair}
 use Rattle.hex.specs.declared.answers.Started.{Started}
+use Rattle.hex.specs.declared.answers.Walked.{Walked}
+use Rattle.hex.specs.declared.answers.Stepped.{Stepped}
 
 -- the check has no value
 abbrev pub toldChecked : Checked → Outcome (Unit {0})
@@ -38,6 +41,16 @@ toldPair (Pair.Refused x) = refused (x .0)
 abbrev pub toldStarted : Started → Outcome Cursor
 toldStarted (Started.At c) = answered c
 toldStarted (Started.Refused x) = refused (x .0)
+
+-- a number with the new digits, and the carry
+abbrev pub toldWalked : Walked → Outcome (ℕ × ℕ)
+toldWalked (Walked.To n c) = answered (n, c)
+toldWalked (Walked.Refused x) = refused (x .0)
+
+abbrev pub toldStepped : Stepped → Outcome Answer
+toldStepped (Stepped.Inside n t) = answered (inside n t)
+toldStepped (Stepped.Leaves d) = answered (leaves d)
+toldStepped (Stepped.Refused x) = refused (x .0)
 
 -- a cursor is refused by 11 alone; it is handed back in each case
 abbrev pub toldGiven : Given → Outcome (Option ℕ)

@@ -1,4 +1,5 @@
 pub mod Answers
 pub mod Cells
 pub mod Points
+pub mod Steps
 pub mod Examples

@@ -1,7 +1,7 @@
 // What entries answer: a value, or the refusal.
 ghost use mathlib.Core.Path.{_≡_};
 ghost use Rattle.index.specs.Refusals.{numberOf};
-ghost use Rattle.hex.specs.Answers.{toldChecked, toldNumber, toldTruth, toldPoint, toldPair, toldStarted};
+ghost use Rattle.hex.specs.Answers.{toldChecked, toldNumber, toldTruth, toldPoint, toldPair, toldStarted, toldWalked, toldStepped};
 use children::Cursor;
 use index::Refusal;
 use plane::ijk::IJ;
@@ -38,6 +38,19 @@ pub enum Pair {
 // A fresh cursor.
 pub enum Started {
     At(Cursor),
+    Refused(Refusal),
+}
+
+// A number with the new digits, and the carry: 0 if none.
+pub enum Walked {
+    To(u64, u32),
+    Refused(Refusal),
+}
+
+// A cell of the same base cell and the turn number, or the direction in which the base cell is left.
+pub enum Stepped {
+    Inside(u64, u32),
+    Leaves(u32),
     Refused(Refusal),
 }
 
@@ -104,6 +117,29 @@ impl Started {
         match self {
             Started::At(_) => 0,
             Started::Refused(x) => x.number(),
+        }
+    }
+}
+
+impl Walked {
+    pub fn refusal(self) -> u16
+        ensures { λ r. ⌜ r ≡ numberOf (toldWalked self) ⌝ }
+    {
+        match self {
+            Walked::To(_, _) => 0,
+            Walked::Refused(x) => x.number(),
+        }
+    }
+}
+
+impl Stepped {
+    pub fn refusal(self) -> u16
+        ensures { λ r. ⌜ r ≡ numberOf (toldStepped self) ⌝ }
+    {
+        match self {
+            Stepped::Inside(_, _) => 0,
+            Stepped::Leaves(_) => 0,
+            Stepped::Refused(x) => x.number(),
         }
     }
 }

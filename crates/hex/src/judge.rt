@@ -1,7 +1,7 @@
 // What entries judge of the numbers handed in, but for a cell.
 ghost use mathlib.Core.Path.{_≡_};
-ghost use mathlib.Core.Bool.{cond};
-ghost use lib.Dec.{ltb};
+ghost use mathlib.Core.Bool.{cond, _||_};
+ghost use lib.Dec.{eqb, ltb};
 ghost use Rattle.plane.specs.Ranges.{point-in-range};
 use plane::direction;
 use plane::direction::Direction;
@@ -21,6 +21,16 @@ pub(crate) fn head(number: u32) -> Heading
         return Heading::Nowhere;
     }
     Heading::To(direction::new_unchecked(number as u8))
+}
+
+// 1 to 6, or refusal 13: what the walk and the step take.
+pub(crate) fn onward(number: u32) -> Heading
+    ensures { λ r. ⌜ r ≡ cond (eqb number 0 || ltb 6 number) Heading.Nowhere (Heading.To (record { 0 = number })) ⌝ }
+{
+    if number == 0 {
+        return Heading::Nowhere;
+    }
+    head(number)
 }
 
 // A point within the range, or refusal 14.

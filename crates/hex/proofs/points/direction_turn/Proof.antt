@@ -40,7 +40,7 @@ returns : tie.Need-returns
 returns c =
     let s = c .before .before .before .before .args in
     let a = c .before .before .before .head in
-    refuse-way (s .direction) (countRule (s .count) ∷ []) _ (turns (s .ccw) (s .count) (s .direction)) (nowhere (s .direction) (a .result) (c .before .before .match .keys2) (a .ensures)) (c .refusal .ensures)
+    refuse-way (s .direction) (countRule (s .count) ∷ []) _ (turns (s .ccw) (s .count) (s .direction)) (nowhere (s .direction) _ (a .result) (c .before .before .match .keys2) (a .ensures)) (c .refusal .ensures)
 
 returns-2 : tie.Need-returns-2
 returns-2 c =

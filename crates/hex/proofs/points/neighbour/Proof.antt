@@ -45,7 +45,7 @@ unfolding moved
 returns c =
     let s = c .before .before .before .before .args in
     let a = c .before .before .before .head in
-    refuse-way (s .direction) (rangeRule (s .p) ∷ []) _ (moved (s .p) (s .direction)) (nowhere (s .direction) (a .result) (c .before .before .match .keys2) (a .ensures)) (c .refusal .ensures)
+    refuse-way (s .direction) (rangeRule (s .p) ∷ []) _ (moved (s .p) (s .direction)) (nowhere (s .direction) _ (a .result) (c .before .before .match .keys2) (a .ensures)) (c .refusal .ensures)
 
 returns-2 : tie.Need-returns-2
 unfolding moved

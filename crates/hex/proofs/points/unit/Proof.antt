@@ -26,7 +26,7 @@ returns : tie.Need-returns
 returns c =
     let s = c .before .before .before .before in
     let a = c .before .before .before .head in
-    refuse-way (s .args .direction) [] _ (unit (s .args .direction)) (nowhere (s .args .direction) (a .result) (c .before .before .match .keys2) (a .ensures)) (c .refusal .ensures)
+    refuse-way (s .args .direction) [] _ (unit (s .args .direction)) (nowhere (s .args .direction) _ (a .result) (c .before .before .match .keys2) (a .ensures)) (c .refusal .ensures)
 
 coordinate-requires : tie.Need-coordinate-requires
 coordinate-requires c κs =
