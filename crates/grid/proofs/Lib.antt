@@ -8,3 +8,4 @@ pub mod WayBack
 pub mod Reading
 pub mod Strings
 pub mod Ranges
+pub mod Computed

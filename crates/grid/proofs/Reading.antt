@@ -86,7 +86,7 @@ module _ (o : Bool) (q : IJK) (s : Sized q) where
 less-law : (a b : ℤ) → (a +ℤ b) -ℤ a ≡ b
 less-law a b = rw (← whole a, ← whole b) (simp diffs (omega arith))
 
-less-ij : (p u : IJ) → (p ⊕ u) ⊖ p ≡ u
+pub less-ij : (p u : IJ) → (p ⊕ u) ⊖ p ≡ u
 less-ij p u = ap₂ pair (less-law (p .i) (u .i)) (less-law (p .j) (u .j))
 
 pub left-digit : (o : Bool) (q : IJK) → (d : ℕ) × (d < 7) × Same q (plus (down7 o (up7 o q)) (unit d)) × (direction-of (minus q (normal (down7 o (up7 o q)))) ≡ Found (direction d))
