@@ -3,18 +3,28 @@
 use mathlib.Core.Path.{_≡_, refl, sym, ap, _∙_}
 use mathlib.Core.Bool.{Bool}
 use Prim.Native.Nat.{ℕ}
-use Rattle.index.specs.Refusals.{Outcome, answered, refused}
+use native.Mathlib.Nat.{suc-ne-zero}
+use mathlib.Core.List.{[], _∷_}
+use Rattle.index.specs.Refusals.{Outcome, answered, refused, judged}
 use Rattle.index.specs.declared.Refusal.{Refusal}
 use Rattle.index.proofs.Rules.{never, refused-inj, answered-inj}
 use Rattle.plane.specs.declared.ijk.IJK.{IJK}
 use Rattle.plane.specs.declared.ijk.IJ.{IJ}
-use Rattle.hex.specs.Answers.{toldChecked, toldNumber, toldTruth, toldPoint, toldPair, toldStarted}
+use Rattle.hex.specs.Answers.{toldChecked, toldNumber, toldTruth, toldPoint, toldPair, toldStarted, toldWalked, toldStepped}
 use Rattle.hex.specs.declared.answers.Checked.{Checked}
 use Rattle.hex.specs.declared.answers.Number.{Number}
 use Rattle.hex.specs.declared.answers.Truth.{Truth}
 use Rattle.hex.specs.declared.answers.Point.{Point}
 use Rattle.hex.specs.declared.answers.Pair.{Pair}
 use Rattle.hex.specs.declared.answers.Started.{Started}
+use Rattle.hex.specs.declared.answers.Walked.{Walked}
+use Rattle.hex.specs.declared.answers.Stepped.{Stepped}
+use Rattle.hex.specs.Steps.{Under, ReadsBack}
+use Rattle.hex.specs.Cells.{resolutionRule}
+use Rattle.hex.specs.Points.{rangeRule}
+use Rattle.grid.specs.Steps.{Answer, inside, leaves}
+use Rattle.grid.specs.Centres.{Reads}
+use Rattle.grid.proofs.Strings.{one-reading}
 use Rattle.children.specs.declared.children.Cursor.{Cursor}
 
 same-refusal : {A : Type 0} (x y : Refusal) → _≡_ {A = Outcome A} (refused (x .0)) (refused (y .0)) → x ≡ y
@@ -73,3 +83,43 @@ told-started (Started.Refused x) (Started.Refused y) e = ap Started.Refused (sam
 
 pub one-started : (o : Outcome Cursor) (r s : Started) → toldStarted r ≡ o → toldStarted s ≡ o → r ≡ s
 one-started o r s p q = told-started r s (p ∙ sym q)
+
+told-walked : (r s : Walked) → toldWalked r ≡ toldWalked s → r ≡ s
+told-walked (Walked.To n c) (Walked.To m d) e = let p = answered-inj e in λ i. Walked.To (p i .0) (p i .1)
+told-walked (Walked.To n c) (Walked.Refused y) e = absurd (never e)
+told-walked (Walked.Refused x) (Walked.To m d) e = absurd (never (sym e))
+told-walked (Walked.Refused x) (Walked.Refused y) e = ap Walked.Refused (same-refusal x y e)
+
+pub one-walked : (o : Outcome (ℕ × ℕ)) (r s : Walked) → toldWalked r ≡ o → toldWalked s ≡ o → r ≡ s
+one-walked o r s p q = told-walked r s (p ∙ sym q)
+
+same-inside : (n t m u : ℕ) → inside n t ≡ inside m u → (n ≡ m) × (t ≡ u)
+same-inside n t m u e = (cc, cc)
+
+same-leaves : (d e : ℕ) → leaves d ≡ leaves e → d ≡ e
+same-leaves d e p = cc
+
+apart : {A : Type 0} (n t d : ℕ) → inside n t ≡ leaves d → A
+apart n t d e = let z : _≡_ {A = ℕ} 0 1 = cc in absurd (suc-ne-zero 0 (sym z))
+
+told-stepped : (r s : Stepped) → toldStepped r ≡ toldStepped s → r ≡ s
+told-stepped (Stepped.Inside n t) (Stepped.Inside m u) e = let p = same-inside n t m u (answered-inj e) in λ i. Stepped.Inside (p .0 i) (p .1 i)
+told-stepped (Stepped.Inside n t) (Stepped.Leaves d) e = apart n t d (answered-inj e)
+told-stepped (Stepped.Inside n t) (Stepped.Refused y) e = absurd (never e)
+told-stepped (Stepped.Leaves d) (Stepped.Inside m u) e = apart m u d (sym (answered-inj e))
+told-stepped (Stepped.Leaves d) (Stepped.Leaves b) e = ap Stepped.Leaves (same-leaves d b (answered-inj e))
+told-stepped (Stepped.Leaves d) (Stepped.Refused y) e = absurd (never e)
+told-stepped (Stepped.Refused x) (Stepped.Inside m u) e = absurd (never (sym e))
+told-stepped (Stepped.Refused x) (Stepped.Leaves d) e = absurd (never (sym e))
+told-stepped (Stepped.Refused x) (Stepped.Refused y) e = ap Stepped.Refused (same-refusal x y e)
+
+pub one-stepped : (o : Outcome Answer) (r s : Stepped) → toldStepped r ≡ o → toldStepped s ≡ o → r ≡ s
+one-stepped o r s p q = told-stepped r s (p ∙ sym q)
+
+-- reading back says of its outcome what only one satisfies
+under-one : (u : Outcome (Unit {0})) (k : ℕ) (p : IJK) (x y : Outcome ℕ) → Under u (Reads k p) x → Under u (Reads k p) y → x ≡ y
+under-one (answered t) k p x y a b = one-reading k p x y a b
+under-one (refused j) k p x y a b = a ∙ sym b
+
+pub one-read-back : (length : ℕ) (p : IJK) (r s : Number) → ReadsBack length p (toldNumber r) → ReadsBack length p (toldNumber s) → r ≡ s
+one-read-back length p r s a b = told-number r s (under-one (judged (resolutionRule length ∷ rangeRule p ∷ []) tt) length p (toldNumber r) (toldNumber s) a b)

@@ -5,12 +5,17 @@ use Prim.Native.Nat.{ℕ}
 use lib.ListN.{take}
 use Rattle.index.specs.Refusals.{Outcome, answered, refused}
 use Rattle.children.specs.Positions.{listing}
+use Rattle.plane.specs.Directions.{vec}
+use Rattle.plane.specs.declared.ijk.IJK.{IJK}
+use Rattle.grid.specs.Steps.{inside, leaves}
 use Rattle.hex.specs.Cells.{validOf, countOf, listOf}
+use Rattle.hex.specs.Steps.{ReadsBack, stepOf}
 
--- a request's outcome, and what the document says it is
+-- a request's outcome, and what the document says it is; of reading back, what the document says its outcome is
 infix 20 _gives_
 pub data Row : Type 1 where
   _gives_ : {A : Type 0} → Outcome A → Outcome A → Row
+  readBack : ℕ → IJK → Outcome ℕ → Row
 
 -- the elements that a listing writes into a buffer of so many
 abbrev written : Outcome ℕ → List ℕ → Outcome (List ℕ)
@@ -35,9 +40,16 @@ table =
     ∷ (listed 0x08009fffffffffff 1 6 gives
     answered (0x081083ffffffffff ∷ 0x08108bffffffffff ∷ 0x08108fffffffffff ∷ 0x081093ffffffffff ∷ 0x081097ffffffffff ∷ 0x08109bffffffffff ∷ []))
     ∷ (listed 0x08009fffffffffff 1 5 gives refused 10)
+    ∷ (stepOf 0x08108fffffffffff 5 gives answered (inside 0x081097ffffffffff 1))
+    ∷ (stepOf 0x081097ffffffffff 3 gives answered (inside 0x08108fffffffffff 5))
+    ∷ (stepOf 0x081083ffffffffff 1 gives refused 17)
+    ∷ (stepOf 0x081013ffffffffff 4 gives answered (leaves 4))
+    ∷ (stepOf 0x081013ffffffffff 3 gives answered (inside 0x081003ffffffffff 0))
+    ∷ readBack 1 (vec 0 0 2) (refused 15)
     ∷ []
 
 -- each row of the table is true
 abbrev pub Holds : List Row → Type 0
 Holds [] = Unit {0}
 Holds ((request gives outcome) ∷ rows) = (request ≡ outcome) × Holds rows
+Holds (readBack length point outcome ∷ rows) = ReadsBack length point outcome × Holds rows
