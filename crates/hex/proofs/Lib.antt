@@ -3,3 +3,4 @@ pub mod Finers
 pub mod Rooms
 pub mod Rows
 pub mod Unique
+pub mod Demands

@@ -1,0 +1,59 @@
+-- What the entries' statements mean, in the words of the demands. A listing that is answered is exactly the valid descendants, ascending, and
+-- as long as the answer says. A walk that is answered moves the centre, and no other pair of numbers does. Assumes nothing.
+use mathlib.Core.Path.{_≡_, sym, ap, _∙_, subst}
+use mathlib.Core.Bool.{Bool, true, false, _||_, true≢false}
+use mathlib.Core.List.{List, [], _∷_, _++_}
+use Prim.Native.Nat.{ℕ, _^_, _≤_, _<_}
+use native.Mathlib.Omega.{arith}
+use lib.Dec.{eqb, ltb}
+use lib.ListN.{length}
+use borrow.Author.Tests.{ltb-false}
+use Rattle.index.specs.Layout.{Valid, resOf}
+use Rattle.index.specs.Refusals.{Rule, _when_, answered, Clear}
+use Rattle.index.specs.Check.{cellRules}
+use Rattle.index.proofs.Rules.{answered-same, answered-clear, clear-parts}
+use Rattle.index.proofs.Validity.{clear-valid}
+use Rattle.children.specs.Descendants.{countOf, Listing}
+use Rattle.children.specs.Positions.{listing}
+use Rattle.children.proofs.Whole.{whole, length-listing}
+use Rattle.grid.specs.Walks.{Moved, walkedOf, carryOf}
+use Rattle.grid.proofs.Walks.{walk-moved, walk-only}
+use Rattle.hex.specs.Cells.{resolutionRule, finerRules, roomRule, listOf}
+use Rattle.hex.specs.Steps.{onwardRule, onwardRules, walkOf}
+
+pub record Listed (n t k room : ℕ) : Type 0 where
+  pub meaning : Listing n t (listing n t)
+  pub count : k ≡ length (listing n t)
+  pub fits : k ≤ room
+
+pub listed : (n t room k : ℕ) → n < 2 ^ 64 → listOf n t room ≡ answered k → Listed n t k room
+listed n t room k h e =
+    let c = clear-parts (finerRules n t) (roomRule n t room ∷ []) (answered-clear (finerRules n t ++ (roomRule n t room ∷ [])) (countOf n t) k e) in
+    let d = clear-parts (cellRules n) (resolutionRule t ∷ (9 when ltb t (resOf n)) ∷ []) (c .0) in
+    let z = answered-same (finerRules n t ++ (roomRule n t room ∷ [])) (countOf n t) k e in
+    record {
+      meaning = whole n t h (clear-valid n (d .0)) (ltb-false t (resOf n) (d .1 .1 .0)) (ltb-false 15 t (d .1 .0));
+      count = sym z ∙ sym (length-listing n t);
+      fits = subst (λ (x : ℕ). x ≤ room) z (ltb-false room (countOf n t) (c .1 .0));
+    }
+
+either-right : (a b : Bool) → a || b ≡ false → b ≡ false
+either-right true b e = absurd (true≢false e)
+either-right false b e = e
+
+pub record Walk-meant (n way y carry : ℕ) : Type 0 where
+  pub moved : Moved n way y carry
+  pub only : (z c : ℕ) → z < 2 ^ 64 → Moved n way z c → (z ≡ y) × (c ≡ carry)
+
+pub walked : (n way y carry : ℕ) → n < 2 ^ 64 → walkOf n way ≡ answered (y, carry) → Walk-meant n way y carry
+walked n way y carry h e =
+    let c = clear-parts (cellRules n) (onwardRule way ∷ []) (answered-clear (onwardRules n way) (walkedOf n way, carryOf n way) (y, carry) e) in
+    let v = clear-valid n (c .0) in
+    let w : way < 7 = omega (arith, ltb-false 6 way (either-right (eqb way 0) (ltb 6 way) (c .1 .0))) in
+    let z = answered-same (onwardRules n way) (walkedOf n way, carryOf n way) (y, carry) e in
+    let p : walkedOf n way ≡ y = ap (λ (x : ℕ × ℕ). x .0) z in
+    let q : carryOf n way ≡ carry = ap (λ (x : ℕ × ℕ). x .1) z in
+    record {
+      moved = subst (λ (x : ℕ × ℕ). Moved n way (x .0) (x .1)) z (walk-moved n way h v w);
+      only = λ x d g m. let o = walk-only n way x d g v w m in (o .0 ∙ p, o .1 ∙ q);
+    }
