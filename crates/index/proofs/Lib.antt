@@ -1,4 +1,3 @@
-pub mod Every
 pub mod Rules
 pub mod Some
 pub mod First

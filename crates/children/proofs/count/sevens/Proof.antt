@@ -3,9 +3,8 @@ use borrow.Author.Needs.{needs}
 use mathlib.Core.List.{List, [], _∷_}
 use Prim.Native.Nat.{ℕ, _^_}
 use native.Mathlib.Omega.{arith}
-use lib.Dec.{eqb, eqb→eq}
 use lib.ListN.{getD}
-use Rattle.index.proofs.Every.{every-at}
+use Rattle.plane.proofs.Every.{at-eq}
 use Rattle.children.proofs.count.sevens.Statement.{statement}
 use Rattle.children.proofs.count.sevens.Tie as tie
 
@@ -20,7 +19,7 @@ array-read-result c = search needs
 
 returns : tie.Need-returns
 unfolding table
-returns c = eqb→eq _ _ (every-at (λ (i : ℕ). eqb (getD table i 0) (7 ^ i)) 16 tt (c .args .m) (omega arith))
+returns c = at-eq 16 (λ (i : ℕ). getD table i 0) (λ (i : ℕ). 7 ^ i) tt (c .args .m) (omega arith)
 
 pub sevens-spec : {M : Type 1} → statement M
 sevens-spec = tie.close (tie.spec mul-result array-read-result returns)

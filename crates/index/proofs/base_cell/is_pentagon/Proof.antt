@@ -2,25 +2,24 @@
 -- Assumes nothing.
 use borrow.Author.Needs.{needs}
 use mathlib.Core.Path.{_≡_}
-use mathlib.Core.Bool.{Bool·beq}
 use Prim.Native.Nat.{ℕ, _-_, _+_, _/_, _%_, _^_, _<_, _≤_}
 use native.Mathlib.Nat.{add-sub-of-le}
 use native.Mathlib.Omega.{arith}
 use lib.Dec.{eqb}
 use Rattle.index.specs.Layout.{isPentagonal, among}
-use Rattle.index.proofs.Every.{every, every-at, agree}
+use Rattle.plane.proofs.Every.{at-same}
 use Rattle.index.proofs.base_cell.is_pentagon.Statement.{statement}
 use Rattle.index.proofs.base_cell.is_pentagon.Tie as tie
 
 low : (x : ℕ) → x < 64 → eqb (0x8402004001004010 / 2 ^ x % 2) 1 ≡ isPentagonal x
 unfolding isPentagonal among
-low x h = agree _ _ (every-at (λ (i : ℕ). Bool·beq (eqb (0x8402004001004010 / 2 ^ i % 2) 1) (isPentagonal i)) 64 tt x h)
+low = at-same 64 (λ (i : ℕ). eqb (0x8402004001004010 / 2 ^ i % 2) 1) isPentagonal tt
 
 high : (x : ℕ) → 64 ≤ x → x < 128 → eqb (0x20080200080100 / 2 ^ (x - 64) % 2) 1 ≡ isPentagonal x
 unfolding isPentagonal among
 high x g h =
     rw (← (add-sub-of-le {n = x} {m = 64} g))
-    (agree _ _ (every-at (λ (i : ℕ). Bool·beq (eqb (0x20080200080100 / 2 ^ (64 + i - 64) % 2) 1) (isPentagonal (64 + i))) 64 tt (x - 64) (omega arith)))
+    (at-same 64 (λ (i : ℕ). eqb (0x20080200080100 / 2 ^ (64 + i - 64) % 2) 1) (λ (i : ℕ). isPentagonal (64 + i)) tt (x - 64) (omega arith))
 
 shr-result : tie.Need-shr-result
 shr-result c = search needs
