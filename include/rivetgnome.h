@@ -20,6 +20,7 @@
 #ifndef RIVETGNOME_H
 #define RIVETGNOME_H
 
+#include <stddef.h>
 #include <stdint.h>
 
 #ifdef __cplusplus
@@ -48,13 +49,15 @@ enum rg_refusal {
     RG_DELETED_WAY = 17  /* a pentagon of resolution 1 or finer has no neighbour in direction 1 */
 };
 
-/* The answer of rg_check: 4 bytes. */
+/* The answer of rg_check and rg_cursor: 4 bytes. */
 typedef struct rg_checked {
     uint16_t refusal; /* enum rg_refusal */
     uint16_t zero;    /* 0, kept for later use */
 } rg_checked;
 
-/* A number: a direction, a distance, or 0 and 1 for no and yes. 16 bytes, 4 of them padding. */
+/* A number: a cell, a count, a position, a direction, a distance, or 0 and 1 for no and yes. 16 bytes,
+ * 4 of them padding.
+ */
 typedef struct rg_number {
     uint16_t refusal; /* enum rg_refusal */
     uint16_t zero;    /* 0, kept for later use */
@@ -83,6 +86,83 @@ typedef struct rg_pair {
  *     if (rg_check(cell).refusal == RG_ANSWERED) ...
  */
 rg_checked rg_check(uint64_t cell);
+
+/* Descendants and ancestors.
+ *
+ * A cell of resolution r lies under one cell of each coarser resolution, its ancestors, and has
+ * descendants at each finer one: the cells of its base cell with the same digits 1 to r. At its own
+ * resolution the one descendant is the cell itself. Descendants are always in ascending order of their
+ * numbers, and positions among them count from 0.
+ *
+ * What is wrong is looked for in this order: the first cell (RG_TOP_BIT to RG_DELETED, as rg_check), the
+ * second cell (the same), RG_RESOLUTION where a resolution is above 15, RG_ORDER, and then what is named
+ * at the function.
+ */
+
+/* How many descendants `cell` has at the resolution `target`: 7^n at n resolutions down, or
+ * 1 + 5 (7^n - 1) / 6 where the cell is a pentagon, that is where its base cell is one and its used digits
+ * are all 0. The most is 7^15.
+ * Refused: RG_ORDER where `target` is coarser than the cell's resolution.
+ */
+rg_number rg_count(uint64_t cell, uint32_t target);
+
+/* Writes the descendants of `cell` at `target` to cells[0], cells[1], and so on; `value` is their count.
+ * `cells` has `length` elements, of any number; those beyond the count stay as they were. Where anything is
+ * refused no element is written. With length 0 `cells` may be NULL; else it points to `length` elements that
+ * nothing else reads or writes meanwhile.
+ * Refused: RG_ORDER as in rg_count; then RG_NO_ROOM where `length` is below the count (rg_count tells it).
+ */
+rg_number rg_list(uint64_t cell, uint32_t target, uint64_t *cells, size_t length);
+
+/* The same one resolution below the cell's own: 7 cells, 6 under a pentagon.
+ * Refused: RG_RESOLUTION where the cell's resolution is 15; then RG_NO_ROOM.
+ */
+rg_number rg_list_short(uint64_t cell, uint64_t *cells, size_t length);
+
+/* The descendant of `cell` at `target` in a position.
+ * Refused: RG_ORDER as in rg_count; then RG_POSITION where `position` is not below the count.
+ */
+rg_number rg_child_at(uint64_t cell, uint32_t target, uint64_t position);
+
+/* The position of `second` among the descendants of `first` at the resolution of `second`. A cell is in
+ * position 0 under itself.
+ * Refused: RG_NOT_UNDER where `second` is no descendant of `first`, as any coarser cell.
+ */
+rg_number rg_position(uint64_t first, uint64_t second);
+
+/* The ancestor of `cell` at a resolution; the cell itself at its own.
+ * Refused: RG_ORDER where `resolution` is finer than the cell's.
+ */
+rg_number rg_ancestor(uint64_t cell, uint32_t resolution);
+
+/* A cursor: it stands before a descendant of a cell, or after the last. The words are there to be kept and
+ * copied; rg_next looks at each of them whole, and refuses any cursor that rg_cursor and rg_next cannot make.
+ *
+ *     rg_cursor_state at;
+ *     if (rg_cursor(cell, target, &at).refusal == RG_ANSWERED)
+ *         for (uint64_t child; (child = rg_next(&at).value) != 0;)
+ *             ...
+ */
+typedef struct rg_cursor_state {
+    uint64_t own;    /* the resolution of the cell */
+    uint64_t target; /* the resolution of its descendants */
+    uint64_t number; /* the next descendant; the last one when none is left */
+    uint64_t skip;   /* under a pentagon the resolution whose digit 1 is skipped next; else -1, that is UINT64_MAX */
+    uint64_t left;   /* how many are left */
+} rg_cursor_state;
+
+/* A cursor before the first descendant of `cell` at `target`, written to *cursor. Where anything is refused
+ * *cursor stays as it was. `cursor` is not NULL.
+ * Refused: RG_ORDER as in rg_count.
+ */
+rg_checked rg_cursor(uint64_t cell, uint32_t target, rg_cursor_state *cursor);
+
+/* The next descendant, and *cursor moves behind it. Where none is left `value` is 0, which is no cell, and
+ * *cursor stays as it was; it does so again at each later call. `cursor` is not NULL.
+ * Refused: RG_POSITION where rg_cursor and rg_next cannot have made this cursor, whatever is wrong in it;
+ * *cursor stays as it was.
+ */
+rg_number rg_next(rg_cursor_state *cursor);
 
 /* Directions.
  *

@@ -6,6 +6,7 @@
 mod asked;
 mod cells;
 mod check;
+mod children;
 mod directions;
 mod frame;
 mod model;
@@ -15,7 +16,7 @@ mod rg;
 use frame::{Entry, Random, Tally};
 use std::process::ExitCode;
 
-const ENTRIES: [&[Entry]; 3] = [&[check::ENTRY], &directions::ENTRIES, &points::ENTRIES];
+const ENTRIES: [&[Entry]; 4] = [&[check::ENTRY], &children::ENTRIES, &directions::ENTRIES, &points::ENTRIES];
 
 struct Wish {
     count: u64,

@@ -57,6 +57,104 @@ pub fn check(n: u64) -> u16 {
     (1..=7).find(|&number| holds(number, n)).unwrap_or(0)
 }
 
+// Counts and listings.
+
+/// "A cell is a pentagon when its base cell is one of them and all used digits are 0."
+pub fn is_pentagon(n: u64) -> bool {
+    PENTAGONS.contains(&base_cell(n)) && (1..=resolution(n)).all(|r| digit(n, r) == 0)
+}
+
+/// "With n = target minus own resolution, a pentagon has 1 + 5 x (7^n - 1) / 6 descendants, any other cell 7^n."
+pub fn count(n: u64, target: u64) -> u64 {
+    let sevens = 7u64.pow((target - resolution(n)) as u32);
+    if is_pentagon(n) { 1 + 5 * (sevens - 1) / 6 } else { sevens }
+}
+
+/// The number with the resolution and the digits of `n` to `own`, the digits `more` after these, and then 7.
+fn with_digits(n: u64, own: u64, more: &[u64]) -> u64 {
+    let target = own + more.len() as u64;
+    let digits = (1..=15).fold(0, |all, r| all * 8 + if r <= own { digit(n, r) } else if r <= target { more[(r - own - 1) as usize] } else { 7 });
+    ((bits(n, 56, 63) * 16 + target) * 128 + base_cell(n)) * 8u64.pow(15) + digits
+}
+
+/// "Descendants have the target resolution, the same base cell, the same leading digits, and are valid." Ascending.
+pub fn descendants(n: u64, target: u64) -> Vec<u64> {
+    let (own, places) = (resolution(n), (target - resolution(n)) as u32);
+    let string = |number: u64| (0..places).rev().map(|place| number / 7u64.pow(place) % 7).collect::<Vec<_>>();
+    (0..7u64.pow(places)).map(|number| with_digits(n, own, &string(number))).filter(|&y| check(y) == 0).collect()
+}
+
+/// How many descendants begin with a digit, `rest` places above the target: none where the digit is deleted.
+fn below(pentagon: bool, digit: u64, rest: u64) -> u64 {
+    let sevens = 7u64.pow(rest as u32);
+    match digit {
+        0 if pentagon => 1 + 5 * (sevens - 1) / 6,
+        1 if pentagon => 0,
+        _ => sevens,
+    }
+}
+
+/// "Child at position and position of child count from 0 in that order."
+pub fn child_at(n: u64, target: u64, position: u64) -> u64 {
+    let (mut left, mut pentagon, mut digits) = (position, is_pentagon(n), Vec::new());
+    for r in resolution(n) + 1..=target {
+        let mut digit = 0;
+        while left >= below(pentagon, digit, target - r) {
+            left -= below(pentagon, digit, target - r);
+            digit += 1;
+        }
+        pentagon &= digit == 0;
+        digits.push(digit);
+    }
+    with_digits(n, resolution(n), &digits)
+}
+
+/// The position of `y` under its ancestor at the resolution `own`.
+pub fn position(y: u64, own: u64) -> u64 {
+    let (mut position, mut pentagon) = (0, is_pentagon(ancestor(y, own)));
+    for r in own + 1..=resolution(y) {
+        position += (0..digit(y, r)).map(|d| below(pentagon, d, resolution(y) - r)).sum::<u64>();
+        pentagon &= digit(y, r) == 0;
+    }
+    position
+}
+
+/// "The ancestor at a resolution cuts the digits and fills with 7."
+pub fn ancestor(n: u64, r: u64) -> u64 {
+    with_digits(n, r, &[])
+}
+
+/// Own resolution, target, next number, skip in two's complement, left.
+pub type Words = [u64; 5];
+
+/// The skip that goes with the child `y` of `n`: -1 where `n` is no pentagon, the target while all digits are 0, then the place before the
+/// first that is not.
+fn skip(n: u64, y: u64) -> u64 {
+    let target = resolution(y);
+    match is_pentagon(n) {
+        true => (1..=target).find(|&r| digit(y, r) != 0).map_or(target, |r| r - 1),
+        false => -1i64 as u64,
+    }
+}
+
+/// The cursor over the descendants of `n` after `calls` calls: with none left it stays at the last.
+pub fn cursor(n: u64, target: u64, calls: u64) -> Words {
+    let count = count(n, target);
+    let y = child_at(n, target, calls.min(count - 1));
+    [resolution(n), target, y, skip(n, y), count - calls]
+}
+
+/// A cursor that calls could have made, as (its cell, the calls).
+pub fn made(words: Words) -> Option<(u64, u64)> {
+    let [own, target, y, _, left] = words;
+    if own > target || target > 15 || check(y) != 0 || resolution(y) != target {
+        return None;
+    }
+    let n = ancestor(y, own);
+    let calls = count(n, target).checked_sub(left)?;
+    (cursor(n, target, calls) == words).then_some((n, calls))
+}
+
 // Directions and points. Whole numbers here are wide enough that nothing overflows.
 
 pub type Point = [i64; 3];

@@ -56,6 +56,10 @@ macro_rules! functions {
 // Pure functions of numbers, so `safe`.
 functions! {
     rg_check check(cell: u64) -> Checked;
+    rg_count count(cell: u64, target: u32) -> Number;
+    rg_child_at child_at(cell: u64, target: u32, position: u64) -> Number;
+    rg_position position(first: u64, second: u64) -> Number;
+    rg_ancestor ancestor(cell: u64, resolution: u32) -> Number;
     rg_unit unit(direction: u32) -> Point;
     rg_direction_turn_ccw direction_turn_ccw(direction: u32, count: u32) -> Number;
     rg_direction_turn_cw direction_turn_cw(direction: u32, count: u32) -> Number;
@@ -74,4 +78,27 @@ functions! {
     rg_up7_ccw up7_ccw(i: i32, j: i32, k: i32) -> Point;
     rg_up7_cw up7_cw(i: i32, j: i32, k: i32) -> Point;
     rg_direction_of direction_of(i: i32, j: i32, k: i32) -> Number;
+}
+
+// Functions that are lent a buffer or a cursor.
+mod lent {
+    unsafe extern "C" {
+        pub fn rg_list(cell: u64, target: u32, cells: *mut u64, length: usize) -> super::Number;
+        pub fn rg_list_short(cell: u64, cells: *mut u64, length: usize) -> super::Number;
+        pub fn rg_cursor(cell: u64, target: u32, cursor: *mut [u64; 5]) -> super::Checked;
+        pub fn rg_next(cursor: *mut [u64; 5]) -> super::Number;
+    }
+}
+
+pub fn list(cell: u64, target: u32, cells: &mut [u64]) -> Number {
+    unsafe { lent::rg_list(cell, target, cells.as_mut_ptr(), cells.len()) }
+}
+pub fn list_short(cell: u64, cells: &mut [u64]) -> Number {
+    unsafe { lent::rg_list_short(cell, cells.as_mut_ptr(), cells.len()) }
+}
+pub fn cursor(cell: u64, target: u32, cursor: &mut [u64; 5]) -> Checked {
+    unsafe { lent::rg_cursor(cell, target, cursor) }
+}
+pub fn next(cursor: &mut [u64; 5]) -> Number {
+    unsafe { lent::rg_next(cursor) }
 }

@@ -1,8 +1,8 @@
 // Requests that take a cell.
+use crate::descendants;
 use crate::out;
 use crate::out::Buffer;
 use crate::out::Out;
-use crate::points;
 use crate::say;
 use hex::Checked;
 use words::Line;
@@ -12,7 +12,7 @@ pub fn request(buf: &mut Buffer, o: Out, line: Line) -> Out {
     if line.is(b"check ", 2) {
         return check(buf, o, line);
     }
-    points::request(buf, o, line)
+    descendants::request(buf, o, line)
 }
 
 fn check(buf: &mut Buffer, o: Out, line: Line) -> Out {

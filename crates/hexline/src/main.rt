@@ -1,6 +1,7 @@
 // Answers the requests on standard input, one a line, on standard output.
 mod answer;
 mod cells;
+mod descendants;
 mod out;
 mod points;
 mod say;

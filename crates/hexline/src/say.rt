@@ -2,10 +2,13 @@
 use crate::out;
 use crate::out::Buffer;
 use crate::out::Out;
+use hex::Cursor;
+use hex::Given;
 use hex::Number;
 use hex::Pair;
 use hex::Point;
 use hex::Refusal;
+use hex::Started;
 use hex::Truth;
 
 pub fn malformed(buf: &mut Buffer, o: Out) -> Out {
@@ -20,6 +23,13 @@ pub fn refused(buf: &mut Buffer, o: Out, refusal: Refusal) -> Out {
 pub fn number(buf: &mut Buffer, o: Out, a: Number) -> Out {
     match a {
         Number::Is(n) => out::decimal(buf, o, n),
+        Number::Refused(r) => refused(buf, o, r),
+    }
+}
+
+pub fn cell(buf: &mut Buffer, o: Out, a: Number) -> Out {
+    match a {
+        Number::Is(n) => out::hex(buf, o, n),
         Number::Refused(r) => refused(buf, o, r),
     }
 }
@@ -60,4 +70,59 @@ fn ij(buf: &mut Buffer, o: Out, i: i32, j: i32) -> Out {
     let one = out::signed(buf, o, i);
     let parted = out::byte(buf, one, b' ');
     out::signed(buf, parted, j)
+}
+
+pub fn started(buf: &mut Buffer, o: Out, a: Started) -> Out {
+    match a {
+        Started::At(c) => cursor(buf, o, c),
+        Started::Refused(r) => refused(buf, o, r),
+    }
+}
+
+pub fn given(buf: &mut Buffer, o: Out, a: Given) -> Out {
+    match a {
+        Given::Child(y, c) => {
+            let child = out::hex(buf, o, y);
+            handed_back(buf, child, c)
+        }
+        Given::Done(c) => {
+            let done = out::text(buf, o, b"Done");
+            handed_back(buf, done, c)
+        }
+        Given::Refused(c) => {
+            let refusal = out::text(buf, o, b"refusal 11");
+            handed_back(buf, refusal, c)
+        }
+    }
+}
+
+fn handed_back(buf: &mut Buffer, o: Out, c: Cursor) -> Out {
+    let parted = out::text(buf, o, b" : ");
+    cursor(buf, parted, c)
+}
+
+fn cursor(buf: &mut Buffer, o: Out, c: Cursor) -> Out {
+    let mut out = out::decimal(buf, o, c.own as u64);
+    out = out::byte(buf, out, b' ');
+    out = out::decimal(buf, out, c.target as u64);
+    out = out::byte(buf, out, b' ');
+    out = out::hex(buf, out, c.number);
+    out = out::byte(buf, out, b' ');
+    out = out::signed(buf, out, c.skip);
+    out = out::byte(buf, out, b' ');
+    out::decimal(buf, out, c.left)
+}
+
+// The first `count` of the cells.
+pub fn cells(buf: &mut Buffer, o: Out, cells: &[u64], count: u64) -> Out {
+    let mut out = o;
+    let mut i = 0;
+    while i < cells.len() && (i as u64) < count {
+        if i > 0 {
+            out = out::byte(buf, out, b' ');
+        }
+        out = out::hex(buf, out, cells[i]);
+        i += 1;
+    }
+    out
 }
