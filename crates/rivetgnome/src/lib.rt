@@ -2,3 +2,4 @@
 mod answers;
 mod cells;
 mod points;
+mod steps;
