@@ -243,6 +243,91 @@ rg_point rg_point_turn_cw(int32_t i, int32_t j, int32_t k);
  */
 rg_number rg_direction_of(int32_t i, int32_t j, int32_t k);
 
+/* The walk: a number with the new digits, and the carry. 16 bytes. */
+typedef struct rg_walked {
+    uint16_t refusal; /* enum rg_refusal */
+    uint16_t zero;    /* 0, kept for later use */
+    uint32_t carry;   /* 0 where the move ends inside the base cell, else a direction */
+    uint64_t number;
+} rg_walked;
+
+/* The values of `kind`. */
+enum rg_kind {
+    RG_INSIDE = 0, /* the neighbour lies in the same base cell */
+    RG_LEAVES = 1  /* it lies in another */
+};
+
+/* The step: 16 bytes. */
+typedef struct rg_stepped {
+    uint16_t refusal; /* enum rg_refusal */
+    uint16_t zero;    /* 0, kept for later use */
+    uint16_t kind;    /* enum rg_kind */
+    uint16_t turn;    /* inside: how often directions turn counter-clockwise on the way, 0, 1 or 5;
+                         leaves: the direction, 1 to 6, in which the base cell is left */
+    uint64_t cell;    /* inside: the neighbour; leaves: 0 */
+} rg_stepped;
+
+/* Turns of cells.
+ *
+ * All functions below that take a cell refuse what rg_check refuses, first and with its number.
+ */
+
+/* `cell` turned `count` times by 60 degrees about the centre of its base cell: each used digit, as
+ * a direction, is turned. `value` is a number with the same base cell and resolution. In a pentagon
+ * base cell it may be one that rg_check refuses with RG_DELETED.
+ * Refused: RG_RANGE where `count` is above 5.
+ */
+rg_number rg_turn_ccw(uint64_t cell, uint32_t count);
+rg_number rg_turn_cw(uint64_t cell, uint32_t count);
+
+/* The turn by 60 degrees that skips the digits a pentagon base cell lacks: where the first used
+ * digit that is not 0 is 3 (counter-clockwise) or 5 (clockwise), so that one turn would make it 1,
+ * all digits turn twice, else once. `value` is a cell, in hexagon base cells too.
+ */
+rg_number rg_pentagon_turn_ccw(uint64_t cell);
+rg_number rg_pentagon_turn_cw(uint64_t cell);
+
+/* Centres.
+ *
+ * The used digits of a cell are a path from the centre of its base cell, (0, 0, 0): for each
+ * resolution from 1 on, go to the next finer grid, by rg_down7_ccw at odd resolutions and by
+ * rg_down7_cw at even ones, then one step in the digit's direction.
+ */
+
+/* The point at which that path ends, whatever the base cell. */
+rg_point rg_centre(uint64_t cell);
+
+/* The other way: the one path of `length` digits that ends at (i, j, k). `value` is the cell with
+ * base cell 0, resolution `length` and these digits.
+ * Refused: RG_RESOLUTION where `length` is above 15; then RG_RANGE where a coordinate is beyond
+ * 100,000,000 either way; then RG_NO_STRING where no path of that length ends there. That happens
+ * near (0, 0, 0) too: the cells under one base cell have a ragged border.
+ */
+rg_number rg_read_back(uint32_t length, int32_t i, int32_t j, int32_t k);
+
+/* Neighbours. */
+
+/* The digits of the neighbour in a direction, 1 to 6. `number` has the same base cell and
+ * resolution and the new digits; `carry` is 0 where the neighbour lies in the same base cell, else
+ * the direction in which it was left, and the digits then count from the base cell there. At
+ * resolution 0 there are no digits and the carry is `direction`. Nothing is done for pentagons: the
+ * number may be one that rg_check refuses with RG_DELETED.
+ * Refused: RG_DIRECTION where `direction` is 0 or above 6.
+ */
+rg_walked rg_walk(uint64_t cell, uint32_t direction);
+
+/* The neighbour in a direction, 1 to 6, so far as it lies in the same base cell.
+ *     rg_stepped s = rg_step(cell, direction);
+ *     if (s.refusal == RG_ANSWERED && s.kind == RG_INSIDE) ... s.cell
+ * In a pentagon base cell the way may lead over the digits that it lacks. Then directions turn:
+ * whoever goes on straight ahead goes on in rg_direction_turn_ccw(direction, s.turn), and the way
+ * back is 7 - direction, turned so too. Elsewhere `turn` is 0. At resolution 0 the answer is always
+ * RG_LEAVES with `direction`.
+ * Refused: RG_DIRECTION where `direction` is 0 or above 6; then RG_DELETED_WAY where the cell is a
+ * pentagon of resolution 1 or finer and the direction is 1.
+ */
+rg_stepped rg_step(uint64_t cell, uint32_t direction);
+
 #ifdef __cplusplus
 }
 #endif

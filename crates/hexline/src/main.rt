@@ -6,6 +6,7 @@ mod out;
 mod points;
 mod say;
 mod serve;
+mod steps;
 
 fn main() {
     serve::serve();

@@ -130,13 +130,13 @@ fn turning(buf: &mut Buffer, o: Out, line: Line) -> Out {
     say::malformed(buf, o)
 }
 
-enum Given {
+pub enum Given {
     Value(IJK),
     Nothing,
 }
 
 // The three words from `at` on.
-fn triple(line: Line, at: usize) -> Given
+pub fn triple(line: Line, at: usize) -> Given
     requires { ⌜ at ≤ 5 ⌝ }
 {
     let Signed::Value(i) = line.integer32(at) else {

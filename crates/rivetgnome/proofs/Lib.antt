@@ -1,3 +1,4 @@
 pub mod Fields
 pub mod Signs
 pub mod Reading
+pub mod Narrow

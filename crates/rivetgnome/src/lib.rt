@@ -4,3 +4,4 @@ mod answers;
 mod cells;
 mod cursors;
 mod points;
+mod steps;
