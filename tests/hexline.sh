@@ -44,6 +44,21 @@ same 'empty lines' 0 $?
 awk -v line="$good" 'BEGIN { for (i = 0; i < 70000; i++) print line }' | "$hexline" | awk '$0 != "ok" { bad = 1 } END { exit bad || NR != 70000 }'
 same 'many answers' 0 $?
 
+# an answer that is longer than the buffer it waits in
+same 'the greatest room' '2401 : 8192 5791 139270' "$(echo 'list 8001fffffffffff 4 8192' | "$hexline" | awk '
+    { for (i = 3; i <= NF; i++) if ($i == "eeeeeeeeeeeeeeee") n++; print $1, $2, NF - 2, n, length($0) }')"
+same 'leading zeros of a room' '1 : 08009fffffffffff,' "$({ printf 'list 8009fffffffffff 0 '; many 100000 0; echo 1; } | answers)"
+
+# each cursor handed back is handed in
+at=$(echo 'cursor 8009fffffffffff 2' | "$hexline")
+run=
+for step in $(awk 'BEGIN { for (i = 0; i < 42; i++) print i }'); do
+    answer=$(echo "next $at" | "$hexline")
+    at=${answer#* : }
+    run="$run${answer%% *} "
+done
+same 'a cursor to its end' "$(echo 'list 8009fffffffffff 2' | "$hexline") Done " "$run"
+
 same 'empty input' '' "$(printf '' | answers)"
 same 'an empty line' 'input,' "$(printf '\n' | answers)"
 same 'no line end' 'ok,' "$(printf '%s' "$good" | answers)"

@@ -3,4 +3,4 @@
 set -eu
 cd "$(dirname "$0")/.."
 target/bin/hexline <docs/tour.txt >target/tour.out
-paste -d '|' docs/tour.txt target/tour.out | awk -F '|' '{ printf "%-32s %s\n", $1, $2 }'
+paste -d '|' docs/tour.txt target/tour.out | awk -F '|' '{ printf "%-40s %s\n", $1, $2 }'
