@@ -11,11 +11,12 @@ mod frame;
 mod model;
 mod points;
 mod rg;
+mod steps;
 
 use frame::{Entry, Random, Tally};
 use std::process::ExitCode;
 
-const ENTRIES: [&[Entry]; 3] = [&[check::ENTRY], &directions::ENTRIES, &points::ENTRIES];
+const ENTRIES: [&[Entry]; 4] = [&[check::ENTRY], &directions::ENTRIES, &points::ENTRIES, &steps::ENTRIES];
 
 struct Wish {
     count: u64,
