@@ -12,11 +12,12 @@ mod frame;
 mod model;
 mod points;
 mod rg;
+mod steps;
 
 use frame::{Entry, Random, Tally};
 use std::process::ExitCode;
 
-const ENTRIES: [&[Entry]; 4] = [&[check::ENTRY], &children::ENTRIES, &directions::ENTRIES, &points::ENTRIES];
+const ENTRIES: [&[Entry]; 5] = [&[check::ENTRY], &children::ENTRIES, &directions::ENTRIES, &points::ENTRIES, &steps::ENTRIES];
 
 struct Wish {
     count: u64,

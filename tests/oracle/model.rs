@@ -230,3 +230,106 @@ pub fn up7(ccw: bool, p: Point) -> Point {
 pub fn direction_of(p: Point) -> Option<i64> {
     (0..=6).find(|&d| unit(d) == normal(p))
 }
+
+// Turns of cells, centres, the walk and the step.
+
+/// The number with another digit of resolution r.
+fn put(n: u64, r: u64, d: u64) -> u64 {
+    let place = 8u64.pow(15 - r as u32);
+    n - digit(n, r) * place + d * place
+}
+
+fn first(n: u64) -> Option<u64> {
+    (1..=resolution(n)).map(|r| digit(n, r)).find(|&d| d != 0)
+}
+
+/// "A cell turned by a count 0 to 5 has each used digit turned"
+pub fn turned(ccw: bool, n: u64, count: u32) -> u64 {
+    (1..=resolution(n)).fold(n, |m, r| put(m, r, turns(ccw, digit(n, r) as i64, count.into()) as u64))
+}
+
+/// "where the first non-zero digit is 3 (counter-clockwise) or 5 (clockwise), all digits turn twice, else once"
+pub fn pentagon_turned(ccw: bool, n: u64) -> u64 {
+    turned(ccw, n, if first(n) == Some(if ccw { 3 } else { 5 }) { 2 } else { 1 })
+}
+
+fn plus(p: Point, q: Point) -> Point {
+    [0, 1, 2].map(|at| p[at] + q[at])
+}
+
+/// "start at 0; for r = 1 upward go down by aperture 7, counter-clockwise for odd r and clockwise for even r, then add the digit's unit vector; normalise"
+pub fn centre(n: u64) -> Point {
+    normal((1..=resolution(n)).fold([0; 3], |p, r| plus(image(DOWN7, r % 2 == 1, p), unit(digit(n, r) as i64))))
+}
+
+/// The string whose centre is the point, "as the cell of base cell 0 with that resolution and those digits": from the finest digit upward, the
+/// one digit without which the point is a down image.
+pub fn read_back(length: u64, p: Point) -> Option<u64> {
+    let mut n = ((1 << 7) + length) * 2u64.pow(52) + 8u64.pow(15) - 1;
+    let mut at = normal(p);
+    for r in (1..=length).rev() {
+        let ccw = r % 2 == 1;
+        let (d, above) = (0..=6).find_map(|d| {
+            let [i, j] = ij(plus(at, unit(d).map(|c| -c)));
+            let [a, b] = if ccw { [3 * i - j, i + 2 * j] } else { [2 * i + j, 3 * j - i] };
+            (a % 7 == 0 && b % 7 == 0).then(|| (d, from_ij([a / 7, b / 7])))
+        }).expect("one of seven");
+        assert!(normal(plus(image(DOWN7, ccw, above), unit(d))) == at);
+        n = put(n, r, d as u64);
+        at = above;
+    }
+    (at == [0; 3]).then_some(n)
+}
+
+/// "old digit + direction = down image of the adjustment + new digit, as points": the adjustment and the new digit, by resolution (odd or
+/// not), old digit and direction.
+static RULE: std::sync::LazyLock<[[[(u64, u64); 7]; 7]; 2]> = std::sync::LazyLock::new(|| {
+    let solve = |odd: bool, old: i64, direction: i64| {
+        let sum = normal(plus(unit(old), unit(direction)));
+        let pairs = (0..7).flat_map(|adjustment| (0..7).map(move |new| (adjustment, new)));
+        let mut found = pairs.filter(|&(a, new)| normal(plus(image(DOWN7, odd, unit(a)), unit(new))) == sum);
+        let (a, new) = found.next().expect("a solution");
+        assert!(found.next().is_none(), "a second solution");
+        (a as u64, new as u64)
+    };
+    [false, true].map(|odd| std::array::from_fn(|old| std::array::from_fn(|way| solve(odd, old as i64, way as i64))))
+});
+
+/// "Digits change from the finest upward until the adjustment is 0." The number and the carry.
+pub fn walked(n: u64, direction: u32) -> (u64, u64) {
+    let (mut m, mut way) = (n, u64::from(direction));
+    for r in (1..=resolution(n)).rev() {
+        if way == 0 {
+            break;
+        }
+        let (adjustment, new) = RULE[(r % 2) as usize][digit(n, r) as usize][way as usize];
+        m = put(m, r, new);
+        way = adjustment;
+    }
+    (m, way)
+}
+
+#[derive(Clone, Copy, PartialEq)]
+pub enum Step {
+    Inside(u64, u64),
+    Leaves(u64),
+    DeletedWay,
+}
+
+/// "If the carry is still not 0 at the base cell, the answer is Leaves with that direction .. Otherwise the answer is Inside with a cell and a
+/// turn number, 0 unless: in a pentagon base cell the new first non-zero digit is 1."
+pub fn step(n: u64, direction: u32) -> Step {
+    let (m, carry) = walked(n, direction);
+    if carry != 0 {
+        return Step::Leaves(carry);
+    }
+    if !(PENTAGONS.contains(&base_cell(n)) && first(m) == Some(1)) {
+        return Step::Inside(m, 0);
+    }
+    match first(n) {
+        None => Step::DeletedWay,
+        Some(3) => Step::Inside(turned(true, m, 1), 1),
+        Some(5) => Step::Inside(turned(false, m, 1), 5),
+        _ => panic!("{n:016x} {direction}: no other origin reaches this"),
+    }
+}

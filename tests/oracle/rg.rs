@@ -39,6 +39,27 @@ pub struct Pair {
 }
 const _: () = assert!(size_of::<Pair>() == 12 && std::mem::offset_of!(Pair, j) == 8);
 
+#[repr(C)]
+#[derive(Clone, Copy)]
+pub struct Walked {
+    pub refusal: u16,
+    pub zero: u16,
+    pub carry: u32,
+    pub number: u64,
+}
+const _: () = assert!(size_of::<Walked>() == 16 && std::mem::offset_of!(Walked, number) == 8);
+
+#[repr(C)]
+#[derive(Clone, Copy)]
+pub struct Stepped {
+    pub refusal: u16,
+    pub zero: u16,
+    pub kind: u16,
+    pub turn: u16,
+    pub cell: u64,
+}
+const _: () = assert!(size_of::<Stepped>() == 16 && std::mem::offset_of!(Stepped, cell) == 8);
+
 /// Each function `rg_NAME` of the archive, as `NAME`.
 macro_rules! functions {
     ($($rg:ident $name:ident($($arg:ident: $of:ty),*) -> $answer:ident;)*) => {
@@ -78,6 +99,14 @@ functions! {
     rg_up7_ccw up7_ccw(i: i32, j: i32, k: i32) -> Point;
     rg_up7_cw up7_cw(i: i32, j: i32, k: i32) -> Point;
     rg_direction_of direction_of(i: i32, j: i32, k: i32) -> Number;
+    rg_turn_ccw turn_ccw(cell: u64, count: u32) -> Number;
+    rg_turn_cw turn_cw(cell: u64, count: u32) -> Number;
+    rg_pentagon_turn_ccw pentagon_turn_ccw(cell: u64) -> Number;
+    rg_pentagon_turn_cw pentagon_turn_cw(cell: u64) -> Number;
+    rg_centre centre(cell: u64) -> Point;
+    rg_read_back read_back(length: u32, i: i32, j: i32, k: i32) -> Number;
+    rg_walk walk(cell: u64, direction: u32) -> Walked;
+    rg_step step(cell: u64, direction: u32) -> Stepped;
 }
 
 // Functions that are lent a buffer or a cursor.
