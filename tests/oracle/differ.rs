@@ -49,6 +49,10 @@ fn wish(mut words: impl Iterator<Item = String>) -> Result<Wish, String> {
     if wish.entries.is_empty() {
         wish.entries = ENTRIES.into_iter().flatten().collect();
     }
+    // with fewer an entry might never meet one of its answers, which each comparison asserts
+    if wish.count < 100_000 {
+        return Err("--count is at least 100000".into());
+    }
     if wish.sample.is_some() != wish.into.is_some() {
         return Err("--sample and --into go together".into());
     }
