@@ -182,7 +182,7 @@ typedef struct rg_stepped {
     uint16_t refusal; /* enum rg_refusal */
     uint16_t zero;    /* 0, kept for later use */
     uint16_t kind;    /* enum rg_kind */
-    uint16_t turn;    /* RG_INSIDE: how often directions turn counter-clockwise on the way, 0, 1 or 5;
+    uint16_t turn;    /* RG_INSIDE: how often directions turn counter-clockwise, 0, 1 or 5;
                          RG_LEAVES: the direction, 1 to 6, in which the base cell is left */
     uint64_t cell;    /* RG_INSIDE: the neighbour; RG_LEAVES: 0 */
 } rg_stepped;
