@@ -2,3 +2,4 @@ pub mod Fields
 pub mod Signs
 pub mod Reading
 pub mod Narrow
+pub mod Alone
