@@ -47,9 +47,9 @@ fn turn(buf: &mut Buffer, o: Out, line: Line, ccw: bool) -> Out {
         return say::malformed(buf, o);
     };
     if ccw {
-        return packed(buf, o, hex::turn_ccw(raw, n));
+        return say::cell(buf, o, hex::turn_ccw(raw, n));
     }
-    packed(buf, o, hex::turn_cw(raw, n))
+    say::cell(buf, o, hex::turn_cw(raw, n))
 }
 
 fn pentagon_turn(buf: &mut Buffer, o: Out, line: Line, ccw: bool) -> Out {
@@ -57,9 +57,9 @@ fn pentagon_turn(buf: &mut Buffer, o: Out, line: Line, ccw: bool) -> Out {
         return say::malformed(buf, o);
     };
     if ccw {
-        return packed(buf, o, hex::pentagon_turn_ccw(raw));
+        return say::cell(buf, o, hex::pentagon_turn_ccw(raw));
     }
-    packed(buf, o, hex::pentagon_turn_cw(raw))
+    say::cell(buf, o, hex::pentagon_turn_cw(raw))
 }
 
 fn centre(buf: &mut Buffer, o: Out, line: Line) -> Out {
@@ -76,7 +76,7 @@ fn read_back(buf: &mut Buffer, o: Out, line: Line) -> Out {
     let points::Given::Value(p) = points::triple(line, 2) else {
         return say::malformed(buf, o);
     };
-    packed(buf, o, hex::read_back(length, p))
+    say::cell(buf, o, hex::read_back(length, p))
 }
 
 fn walk(buf: &mut Buffer, o: Out, line: Line) -> Out {
@@ -109,14 +109,6 @@ fn step(buf: &mut Buffer, o: Out, line: Line) -> Out {
             out::decimal(buf, named, way as u64)
         }
         Stepped::Refused(r) => say::refused(buf, o, r),
-    }
-}
-
-// A packed number, in 16 digits.
-fn packed(buf: &mut Buffer, o: Out, a: hex::Number) -> Out {
-    match a {
-        hex::Number::Is(n) => out::hex(buf, o, n),
-        hex::Number::Refused(r) => say::refused(buf, o, r),
     }
 }
 
