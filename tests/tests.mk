@@ -26,7 +26,7 @@ test-python: $(LIB)
 		echo 'skipped: Python test (Debian package python3, 3.9 or later)'; \
 	elif ! $(call C_HAS,gcc -x c); then \
 		echo 'skipped: Python test, whose shared object gcc links (Debian package gcc, with libc6-dev)'; \
-	else cd bindings/python && RIVETGNOME_LIB=$(CURDIR)/$(LIB) python3 -B -m unittest; fi
+	else cd bindings/python && RIVETGNOME_LIB="$(CURDIR)/$(LIB)" python3 -B -m unittest; fi
 
 # The short comparison with the Rust.
 test-differ: $(LIB)
