@@ -284,7 +284,9 @@ class _Library:
                 library = _load()
                 found = {}
                 for export, (answer, *arguments) in _EXPORTS.items():
-                    function = getattr(library, export)
+                    function = getattr(library, export, None)
+                    if function is None:
+                        raise OSError(f"rivetgnome: {library._name} has no {export}")
                     function.restype, function.argtypes = answer, arguments
                     found[export] = function
                 self.__dict__.update(found)
@@ -354,7 +356,9 @@ def _elements(buffer: Any) -> Tuple[memoryview, Any]:
     """The view to keep while the library writes, and the address of element 0."""
     view = memoryview(buffer)
     order = "<" if sys.byteorder == "little" else ">"
-    if view.ndim != 1 or view.itemsize != 8 or view.format.lstrip("@=" + order) not in ("Q", "L"):
+    # Python 3.9 gives an empty ctypes array elements of 0 bytes
+    wide = view.itemsize == 8 or len(view) == 0
+    if view.ndim != 1 or not wide or view.format.lstrip("@=" + order) not in ("Q", "L"):
         raise TypeError("a buffer has one dimension and unsigned 64-bit elements, as array('Q')")
     if len(view) == 0:
         return view, None

@@ -1,6 +1,7 @@
 """Tests of rivetgnome.py: `python3 -m unittest` in this folder."""
 import ctypes
 import doctest
+import mmap
 import os
 import pickle
 import re
@@ -185,6 +186,12 @@ POINT_TO_POINT = [rg.down7_ccw, rg.down7_cw, rg.down3_ccw, rg.down3_cw, rg.up7_c
 POINT_TO_POINT += [rg.point_turn_ccw, rg.point_turn_cw]
 
 
+def mmap_of(length):
+    made = mmap.mmap(-1, 8 * length)
+    made.write(b"\xee" * 8 * length)
+    return made
+
+
 class Buffers(Case):
     def kinds(self, length):
         yield array("Q", [UNTOUCHED] * length)
@@ -194,6 +201,7 @@ class Buffers(Case):
         if length:
             yield memoryview(bytearray(b"\xee" * 8 * length)).cast("Q")
             yield memoryview(array("Q", [UNTOUCHED] * (length + 2)))[1:-1]
+            yield memoryview(mmap_of(length)).cast("Q")
         if ctypes.sizeof(ctypes.c_ulong) == 8:
             yield array("L", [UNTOUCHED] * length)
 
@@ -478,6 +486,13 @@ class Finding(Case):
         for where in ("/nowhere", self.folder.name):
             ran = self.run_in(HERE, RIVETGNOME_LIB=where)
             self.assertIn("OSError: rivetgnome: RIVETGNOME_LIB: there is no", ran.stderr)
+
+    def test_another_library(self):
+        other = Path(self.folder.name) / "other.so"
+        build = ["gcc", "-shared", "-o", str(other), "-x", "c", "-"]
+        subprocess.run(build, input="int rg_check; ", text=True, check=True)
+        ran = self.run_in(HERE, RIVETGNOME_LIB=other)
+        self.assertIn(f"OSError: rivetgnome: {other} has no rg_count", ran.stderr)
 
     def test_pkg_config(self):
         if not shutil.which("pkg-config"):
