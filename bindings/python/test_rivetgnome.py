@@ -325,7 +325,16 @@ class Answers(Case):
         self.assertEqual([rg.direction_turn_ccw(d, 1) for d in range(7)], [0, 5, 3, 1, 6, 4, 2])
         self.assertEqual([rg.direction_turn_cw(d, 5) for d in range(7)], [0, 5, 3, 1, 6, 4, 2])
         self.assertEqual(rg.read_back(1, rg.centre(0x081013FFFFFFFFFF)), 0x081013FFFFFFFFFF)
-        self.assertEqual(rg.check(rg.pentagon_turn_ccw(0x08108FFFFFFFFFFF)), None)
+
+    def test_turns(self):
+        by_digit = rg.list_cells(HEXAGON, 1)
+        turns = {rg.turn_ccw: rg.direction_turn_ccw, rg.turn_cw: rg.direction_turn_cw}
+        for turn, direction_turn in turns.items():
+            for d in range(7):
+                for n in range(6):
+                    self.assertEqual(turn(by_digit[d], n), by_digit[direction_turn(d, n)])
+        self.assertEqual([by_digit.index(rg.pentagon_turn_ccw(c)) for c in by_digit], [0, 5, 3, 5, 6, 4, 2])
+        self.assertEqual([by_digit.index(rg.pentagon_turn_cw(c)) for c in by_digit], [0, 3, 6, 2, 5, 3, 4])
 
 
 def hexadecimal(number):
@@ -514,6 +523,10 @@ class Finding(Case):
         if shutil.which("make"):
             self.found(self.run_in(module))
             self.found(self.run_in(module, PATH="/nowhere"))
+            old = root / "target" / "lib" / "librivetgnome.so"
+            old.write_bytes(b"")
+            os.utime(old, (1, 1))
+            self.found(self.run_in(module))
 
     def test_nothing(self):
         ran = self.run_in(self.alone("nothing"))
