@@ -34,6 +34,7 @@ if [ "$failed" = 0 ]; then
     part 'the border of index::inside' tests/border.sh
     part 'the archive' make -s lib
     part 'from C and C++' make -s test-c
+    part 'the Python binding' make -s test-python
     part 'the line program' tests/hexline.sh
     part 'beside the Rust' make -s test-differ
 fi

@@ -4,7 +4,7 @@
 C_WARN = -Wall -Wextra -Werror -pedantic
 C_HAS = printf '%s\n' '\#include <stdint.h>' | $(1) -fsyntax-only - 2>/dev/null
 
-.PHONY: test-c test-differ differ sample
+.PHONY: test-c test-python test-differ differ sample
 
 # Every tests/c/*.c, from C11 and again from C++17.
 test-c: $(LIB)
@@ -19,6 +19,14 @@ test-c: $(LIB)
 			g++ -std=c++17 $(C_WARN) -O -Iinclude -o target/c/$$t++ -x c++ tests/c/$$t.c -x none $(LIB) && target/c/$$t++ || exit 1; \
 		done; \
 	else echo 'skipped: C++ test (Debian package g++)'; fi
+
+# bindings/python and the examples of docs/USING.md, over this archive whatever is installed.
+test-python: $(LIB)
+	@if ! python3 -c 'import ctypes, sys, unittest; sys.exit(sys.version_info < (3, 9))' 2>/dev/null; then \
+		echo 'skipped: Python test (Debian package python3, 3.9 or later)'; \
+	elif ! $(call C_HAS,gcc -x c); then \
+		echo 'skipped: Python test, whose shared object gcc links (Debian package gcc, with libc6-dev)'; \
+	else cd bindings/python && RIVETGNOME_LIB="$(CURDIR)/$(LIB)" python3 -B -m unittest; fi
 
 # The short comparison with the Rust.
 test-differ: $(LIB)
