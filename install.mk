@@ -9,7 +9,10 @@ VERSION := $(MAJOR).$(call version,MINOR).$(call version,PATCH)
 SONAME = librivetgnome.so.$(MAJOR)
 SO = target/so/librivetgnome.so.$(VERSION)
 
-.PHONY: install uninstall so hexline test-install
+.PHONY: install uninstall prefix so hexline test-install
+
+prefix:
+	@case '$(PREFIX)' in /*) ;; *) echo 'PREFIX must begin with /' >&2; exit 1 ;; esac
 
 hexline:
 	@mkdir -p target && rt check hexline >target/run.log 2>&1 || { cat target/run.log; exit 1; }
@@ -18,10 +21,10 @@ hexline:
 so: $(LIB)
 	@mkdir -p target/so
 	@{ echo '{ global:'; sed -n 's/^[a-z].* \(rg_[a-z0-9_]*\)(.*/\1;/p' $(HEADER); echo 'local: *; };'; } >target/so/map
-	@gcc -shared -nostdlib -o $(SO) -Wl,-soname,$(SONAME),--version-script=target/so/map,--no-undefined-version,-z,defs \
+	@gcc -shared -nostdlib -o $(SO) -Wl,-soname,$(SONAME),--version-script=target/so/map,--no-undefined-version,-z,defs,-z,noexecstack \
 		-Wl,--whole-archive $(LIB) -Wl,--no-whole-archive
 
-install: $(LIB) hexline
+install: prefix $(LIB) hexline
 	@if command -v gcc >/dev/null; then $(MAKE) -s so; else rm -f $(SO); echo 'skipped: librivetgnome.so (Debian package gcc)'; fi
 	@mkdir -p '$(INTO)/include' '$(INTO)/lib/pkgconfig' '$(INTO)/bin'
 	@install -m 644 $(HEADER) '$(INTO)/include'
@@ -36,9 +39,9 @@ install: $(LIB) hexline
 		'Cflags: -I$${includedir}' 'Libs: -L$${libdir} -lrivetgnome' >'$(INTO)/lib/pkgconfig/rivetgnome.pc'
 	@install -m 755 target/bin/hexline '$(INTO)/bin'
 
-uninstall:
+uninstall: prefix
 	@rm -f '$(INTO)/include/rivetgnome.h' '$(INTO)/lib/librivetgnome.a' '$(INTO)/lib/librivetgnome.so.$(VERSION)' \
 		'$(INTO)/lib/$(SONAME)' '$(INTO)/lib/librivetgnome.so' '$(INTO)/lib/pkgconfig/rivetgnome.pc' '$(INTO)/bin/hexline'
 
-test-install: $(LIB) hexline
+test-install: prefix $(LIB) hexline
 	@tests/install.sh
