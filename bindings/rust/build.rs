@@ -18,10 +18,7 @@ fn by_pkg_config() -> Option<PathBuf> {
         .status()
         .ok()
         .filter(|status| status.success())?;
-    let out = Command::new(tool)
-        .args(["--variable=libdir", "rivetgnome"])
-        .output()
-        .ok()?;
+    let out = Command::new(tool).args(["--variable=libdir", "rivetgnome"]).output().ok()?;
     let folder = PathBuf::from(String::from_utf8(out.stdout).ok()?.trim());
     has(&folder).then_some(folder)
 }
@@ -30,11 +27,7 @@ fn by_repository() -> PathBuf {
     let root = Path::new(env!("CARGO_MANIFEST_DIR")).join("../..");
     let folder = root.join("target/staticlib");
     if !has(&folder) {
-        let made = Command::new("make")
-            .arg("-C")
-            .arg(&root)
-            .arg("lib")
-            .status();
+        let made = Command::new("make").arg("-C").arg(&root).arg("lib").status();
         assert!(
             made.is_ok_and(|status| status.success()) && has(&folder),
             "no library: set RIVETGNOME_LIB to its folder, or install it, or let `make lib` build it"
@@ -50,11 +43,7 @@ fn main() {
     let folder = match env::var_os("RIVETGNOME_LIB") {
         Some(folder) => {
             let folder = PathBuf::from(folder);
-            assert!(
-                has(&folder),
-                "no {STATIC} or {SHARED} in RIVETGNOME_LIB, {}",
-                folder.display()
-            );
+            assert!(has(&folder), "no {STATIC} or {SHARED} in RIVETGNOME_LIB, {}", folder.display());
             folder
         }
         None => by_pkg_config().unwrap_or_else(by_repository),
