@@ -1,4 +1,5 @@
 # make install and make uninstall, for the Makefile to include; it has the rule for $(LIB).
+# BUILT=1 installs what stands in target/, without rt.
 PREFIX = /usr/local
 INTO = $(DESTDIR)$(PREFIX)
 
@@ -18,14 +19,14 @@ hexline:
 	@mkdir -p target && rt check hexline >target/run.log 2>&1 || { cat target/run.log; exit 1; }
 
 # The functions that the header declares are visible, and nothing else; one that the archive lacks stops the link.
-so: $(LIB)
+so: $(if $(BUILT),,$(LIB))
 	@mkdir -p target/so
 	@{ echo '{ global:'; sed -n 's/^[a-z].* \(rg_[a-z0-9_]*\)(.*/\1;/p' $(HEADER); echo 'local: *; };'; } >target/so/map
 	@gcc -shared -nostdlib -o $(SO) -Wl,-soname,$(SONAME),--version-script=target/so/map,--no-undefined-version,-z,defs,-z,noexecstack \
 		-Wl,--whole-archive $(LIB) -Wl,--no-whole-archive
 
-install: prefix $(LIB) hexline
-	@if command -v gcc >/dev/null; then $(MAKE) -s so; else rm -f $(SO); echo 'skipped: librivetgnome.so (Debian package gcc)'; fi
+install: prefix $(if $(BUILT),,$(LIB) hexline)
+	@if command -v gcc >/dev/null; then $(MAKE) -s so BUILT=1; else rm -f $(SO); echo 'skipped: librivetgnome.so (Debian package gcc)'; fi
 	@mkdir -p '$(INTO)/include' '$(INTO)/lib/pkgconfig' '$(INTO)/bin'
 	@install -m 644 $(HEADER) '$(INTO)/include'
 	@install -m 644 $(LIB) '$(INTO)/lib'

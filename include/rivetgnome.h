@@ -256,7 +256,7 @@ rg_number rg_direction_of(int32_t i, int32_t j, int32_t k);
 typedef struct rg_walked {
     uint16_t refusal; /* enum rg_refusal */
     uint16_t zero;    /* 0, kept for later use */
-    uint32_t carry;   /* 0 where the move ends inside the base cell, else a direction */
+    uint32_t carry;   /* 0 where the move stays in the base cell, else a direction */
     uint64_t number;
 } rg_walked;
 
@@ -271,9 +271,9 @@ typedef struct rg_stepped {
     uint16_t refusal; /* enum rg_refusal */
     uint16_t zero;    /* 0, kept for later use */
     uint16_t kind;    /* enum rg_kind */
-    uint16_t turn;    /* inside: how often directions turn counter-clockwise on the way, 0, 1 or 5;
-                         leaves: the direction, 1 to 6, in which the base cell is left */
-    uint64_t cell;    /* inside: the neighbour; leaves: 0 */
+    uint16_t turn;    /* RG_INSIDE: how often directions turn counter-clockwise on the way, 0, 1 or 5;
+                         RG_LEAVES: the direction, 1 to 6, in which the base cell is left */
+    uint64_t cell;    /* RG_INSIDE: the neighbour; RG_LEAVES: 0 */
 } rg_stepped;
 
 /* Turns of cells.

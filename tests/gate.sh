@@ -35,6 +35,8 @@ if [ "$failed" = 0 ]; then
     part 'the archive' make -s lib
     part 'from C and C++' make -s test-c
     part 'the line program' tests/hexline.sh
+    part 'installed' tests/install.sh
+    part 'the Rust binding' make -s test-rust BUILT=1
     part 'beside the Rust' make -s test-differ
 fi
 if [ "$failed" = 0 ]; then

@@ -1,5 +1,5 @@
 #!/bin/sh
-# make install and make uninstall in temporary folders, and a C program built by pkg-config alone.
+# make install and make uninstall of what stands in target/, in temporary folders, and a C program built by pkg-config alone.
 set -u
 cd "$(dirname "$0")/.." || exit 1
 LC_ALL=C
@@ -60,7 +60,7 @@ built() {
 tried() {
     name=$1 into=$2
     shift 2
-    make -s install "$@" >"$work/log" 2>&1
+    make -s install BUILT=1 "$@" >"$work/log" 2>&1
     same "$name: install" 0 $?
     grep '^skipped: ' "$work/log"
     same "$name: files" "$all" "$(files "$into")"
@@ -75,7 +75,7 @@ tried() {
             echo 'skipped: a program built by pkg-config (Debian package pkg-config)'
         fi
     fi
-    make -s install "$@" >/dev/null 2>&1
+    make -s install BUILT=1 "$@" >/dev/null 2>&1
     same "$name: installed again" "$all" "$(files "$into")"
     echo kept >"$into/lib/other"
     make -s uninstall "$@"
@@ -90,7 +90,7 @@ tried PREFIX "$work/prefix" PREFIX="$work/prefix"
     echo "$passed $failed" >"$work/counts"
 )
 read -r passed failed <"$work/counts"
-make -s install PREFIX=relative >/dev/null 2>&1
+make -s install BUILT=1 PREFIX=relative >/dev/null 2>&1
 same 'a PREFIX that is not absolute' 2 $?
 
 echo "$passed passed, $failed failed"
