@@ -8,6 +8,8 @@ help:
 	@echo 'make differ   compare the library with the Rust original (N=.. random requests an entry, SEED=..)'
 	@echo 'make sample   make the stored requests and answers of hexline again, from the Rust'
 	@echo 'make lib      prove and build $(LIB)'
+	@echo 'make install  install the header, the library, its pkg-config file and hexline (PREFIX=/usr/local, DESTDIR=)'
+	@echo 'make uninstall'
 	@echo 'make fmt      lay out every .rt and .antt file'
 
 run:
@@ -28,3 +30,4 @@ fmt:
 	@rt fmt
 
 include tests/tests.mk
+include install.mk

@@ -27,6 +27,15 @@
 extern "C" {
 #endif
 
+/* The version of this header. */
+#define RG_VERSION_MAJOR 0
+#define RG_VERSION_MINOR 1
+#define RG_VERSION_PATCH 0
+#define RG_VERSION (RG_VERSION_MAJOR * 10000 + RG_VERSION_MINOR * 100 + RG_VERSION_PATCH)
+
+/* The version of the library, counted as RG_VERSION. */
+uint32_t rg_version(void);
+
 /* The values of `refusal`. */
 enum rg_refusal {
     RG_ANSWERED = 0,     /* nothing is wrong */

@@ -36,6 +36,8 @@ if [ "$failed" = 0 ]; then
     part 'from C and C++' make -s test-c
     part 'the Python binding' make -s test-python
     part 'the line program' tests/hexline.sh
+    part 'installed' tests/install.sh
+    part 'the Rust binding' make -s test-rust BUILT=1
     part 'beside the Rust' make -s test-differ
 fi
 if [ "$failed" = 0 ]; then

@@ -40,3 +40,10 @@ differ: $(LIB)
 # crates/hexline/stdin and stdout again, from the Rust's answers.
 sample: $(LIB)
 	@tests/sample.sh
+
+# bindings/rust: its tests, its examples and its layout.
+.PHONY: test-rust
+test-rust: $(if $(BUILT),,$(LIB))
+	@if ! command -v cargo >/dev/null; then echo 'skipped: the Rust binding (Debian package cargo)'; \
+	elif ! command -v cc >/dev/null; then echo 'skipped: the Rust binding (Debian package gcc)'; \
+	else cd bindings/rust && RIVETGNOME_LIB="$(CURDIR)/target/staticlib" CARGO_TARGET_DIR="$(CURDIR)/target/rust" cargo test --offline --locked -q; fi

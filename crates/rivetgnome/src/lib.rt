@@ -5,3 +5,4 @@ mod cells;
 mod cursors;
 mod points;
 mod steps;
+mod version;
