@@ -21,10 +21,12 @@ test:
 
 lib: $(LIB)
 
-# rt itself proves nothing again that has not changed
+# With BUILT=1 the archive is taken as it stands in target/.
+ifndef BUILT
 .PHONY: $(LIB)
 $(LIB):
 	@mkdir -p target && rt staticlib rivetgnome >target/lib.log 2>&1 || { cat target/lib.log; exit 1; }
+endif
 
 fmt:
 	@rt fmt

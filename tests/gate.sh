@@ -33,12 +33,12 @@ if [ "$failed" = 0 ]; then
     part 'layout of the sources' rt fmt --check
     part 'the border of index::inside' tests/border.sh
     part 'the archive' make -s lib
-    part 'from C and C++' make -s test-c
-    part 'the Python binding' make -s test-python
+    part 'from C and C++' make -s test-c BUILT=1
+    part 'the Python binding' make -s test-python BUILT=1
     part 'the line program' tests/hexline.sh
     part 'installed' tests/install.sh
     part 'the Rust binding' make -s test-rust BUILT=1
-    part 'beside the Rust' make -s test-differ
+    part 'beside the Rust' make -s test-differ BUILT=1
 fi
 if [ "$failed" = 0 ]; then
     printf '%s\n' "$last"

@@ -214,6 +214,7 @@ _EXPORTS = {
     "rg_read_back": (_Number, c_uint32, *_3),
     "rg_walk": (_Walked, c_uint64, c_uint32),
     "rg_step": (_Stepped, c_uint64, c_uint32),
+    "rg_version": (c_uint32,),
 }
 
 _SHARED = "librivetgnome.so"
@@ -332,6 +333,11 @@ def _point(answer: _Point) -> IJK:
     if answer.refusal:
         raise Refused(answer.refusal)
     return IJK(answer.i, answer.j, answer.k)
+
+
+def version() -> int:
+    """The library's version: 10000 * major + 100 * minor + patch."""
+    return _lib.rg_version()
 
 
 def check(cell: int) -> None:
