@@ -6,6 +6,7 @@ help:
 	@echo 'make run      prove and build what is needed, then answer the tour (docs/tour.txt)'
 	@echo 'make test     the whole gate: proofs, must-fail edits, programs, and the tests from outside'
 	@echo 'make differ   compare the library with the Rust original (N=.. random requests an entry, SEED=..)'
+	@echo 'make abuse    wrong numbers and buffers to the library, damaged lines to hexline (N=.. calls, SEED=..)'
 	@echo 'make sample   make the stored requests and answers of hexline again, from the Rust'
 	@echo 'make lib      prove and build $(LIB)'
 	@echo 'make fmt      lay out every .rt and .antt file'

@@ -36,6 +36,8 @@ if [ "$failed" = 0 ]; then
     part 'from C and C++' make -s test-c
     part 'the line program' tests/hexline.sh
     part 'beside the Rust' make -s test-differ
+    part 'abuse' make -s test-abuse
+    part 'fuzz' make -s test-fuzz
 fi
 if [ "$failed" = 0 ]; then
     printf '%s\n' "$last"
