@@ -100,5 +100,12 @@ fi
 same 'input closed' 0 $?
 same 'input a directory' '' "$("$hexline" </ 2>&1)"
 
+# with an argument no input is read
+same 'help' 'hexline answers each line of standard input, a request, with one line.' "$("$hexline" --help </dev/zero | head -1)"
+same 'short help' "$("$hexline" --help)" "$("$hexline" -h </dev/zero)"
+for argument in '' - -H --hel --helps "$(many 5000 a)"; do
+    same "argument '$argument'" 'hexline: takes no argument but --help; requests come on standard input' "$("$hexline" "$argument" </dev/zero)"
+done
+
 echo "$passed passed, $failed failed"
 [ "$failed" = 0 ]

@@ -14,8 +14,11 @@ mod points;
 mod rg;
 mod steps;
 
-use frame::{Entry, Random, Tally};
+use frame::{DONE, Entry, Random, Tally};
+use std::io::IsTerminal;
 use std::process::ExitCode;
+use std::sync::atomic::{AtomicUsize, Ordering::Relaxed};
+use std::time::{Duration, Instant};
 
 const ENTRIES: [&[Entry]; 5] = [&[check::ENTRY], &children::ENTRIES, &directions::ENTRIES, &points::ENTRIES, &steps::ENTRIES];
 
@@ -66,15 +69,37 @@ fn sample(wish: &Wish, count: u64, into: &str) -> std::io::Result<()> {
     std::fs::write(format!("{into}/stdout"), text(|l| &l.1))
 }
 
+/// Which entry is being compared.
+static AT: AtomicUsize = AtomicUsize::new(0);
+
+/// To standard error, until the program ends: each second on a terminal, else each ten.
+fn progress(entries: &[&'static Entry]) {
+    let (names, terminal, start): (Vec<_>, _, _) = (entries.iter().map(|e| e.name).collect(), std::io::stderr().is_terminal(), Instant::now());
+    std::thread::spawn(move || loop {
+        std::thread::sleep(Duration::from_secs(if terminal { 1 } else { 10 }));
+        let Some(name) = names.get(AT.load(Relaxed)) else {
+            return;
+        };
+        let line = format!("{} s, entry {} of {}, {name}: {} compared", start.elapsed().as_secs(), AT.load(Relaxed) + 1, names.len(), DONE.load(Relaxed));
+        if terminal {
+            eprint!("\r{line:<78}\r");
+        } else {
+            eprintln!("{line}");
+        }
+    });
+}
+
 fn compare(wish: &Wish) -> bool {
     let counts = |of: &std::collections::BTreeMap<&str, u64>| {
         let list: Vec<String> = of.iter().map(|(name, count)| format!("{name} {count}")).collect();
         if list.is_empty() { "none".into() } else { list.join(", ") }
     };
     println!("seed {}, {} random requests an entry", wish.seed, wish.count);
+    progress(&wish.entries);
     let tallies: Vec<Tally> = wish.entries.iter().map(|e| {
         let mut tally = Tally::default();
         (e.compare)(&mut Random::new(wish.seed, e.name), wish.count, &mut tally);
+        AT.fetch_add(1, Relaxed);
         tally
     }).collect();
     println!("{:20} {:>10} {:>11}  intended differences", "entry", "compared", "unexplained");

@@ -1,5 +1,9 @@
 //! What every comparison needs: random numbers that a seed fixes, and a tally.
 use std::collections::BTreeMap;
+use std::sync::atomic::{AtomicU64, Ordering::Relaxed};
+
+/// Requests compared so far, over all entries. One thread counts.
+pub static DONE: AtomicU64 = AtomicU64::new(0);
 
 /// One entry of the library. `compare` puts to both sides what can be listed whole and `count`
 /// random requests; `sample` gives `count` lines of the line program with the answers that the
@@ -47,6 +51,7 @@ impl Tally {
     /// One request compared; `kind` names its right answer, so that one can see what was met.
     pub fn compared(&mut self, kind: &'static str) {
         self.compared += 1;
+        DONE.store(DONE.load(Relaxed) + 1, Relaxed);
         *self.answers.entry(kind).or_default() += 1;
     }
     /// A difference that is meant (docs/DIFFERENCES.md).
