@@ -8,7 +8,6 @@ help:
 	@echo 'make differ   compare the library with the Rust original (N=.. random requests an entry, SEED=..)'
 	@echo 'make abuse    wrong numbers and buffers to the library, damaged lines to hexline (N=.. calls, SEED=..)'
 	@echo 'make sample   make the stored requests and answers of hexline again, from the Rust'
-	@echo 'make abuse    call every export through guard pages, and hexline with damaged lines (N=.., SEED=..)'
 	@echo 'make lib      prove and build $(LIB)'
 	@echo 'make install  install the header, the library, its pkg-config file and hexline (PREFIX=/usr/local, DESTDIR=)'
 	@echo 'make uninstall'
