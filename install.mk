@@ -44,5 +44,5 @@ uninstall: prefix
 	@rm -f '$(INTO)/include/rivetgnome.h' '$(INTO)/lib/librivetgnome.a' '$(INTO)/lib/librivetgnome.so.$(VERSION)' \
 		'$(INTO)/lib/$(SONAME)' '$(INTO)/lib/librivetgnome.so' '$(INTO)/lib/pkgconfig/rivetgnome.pc' '$(INTO)/bin/hexline'
 
-test-install: prefix $(LIB) hexline
+test-install: $(LIB) hexline
 	@tests/install.sh
