@@ -6,5 +6,5 @@ tests/oracle/build.sh
 into=target/sample
 mkdir -p $into
 target/oracle/differ --sample 100 --seed 1 --into $into
-cat $into/stdin tests/lines/published.in tests/lines/steps.in tests/lines/by_hand.in >crates/hexline/stdin
-cat $into/stdout tests/lines/published.out tests/lines/steps.out tests/lines/by_hand.out >crates/hexline/stdout
+cat $into/stdin tests/lines/published.in tests/lines/differences.in tests/lines/steps.in tests/lines/by_hand.in >crates/hexline/stdin
+cat $into/stdout tests/lines/published.out tests/lines/differences.out tests/lines/steps.out tests/lines/by_hand.out >crates/hexline/stdout
