@@ -127,7 +127,7 @@ fn answer(request: &str) -> String {
     })
 }
 
-/// Answers of each entry, told by document 01, by h3o's own documentation, or by both.
+/// Answers of each entry, printed in h3o's documentation or worked out by hand from document 01.
 const TOLD: &str = "\
 check 80f3fffffffffff = ok
 count 8a1fb46622dffff 15 = 16807
