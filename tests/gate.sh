@@ -7,7 +7,7 @@ work=$(mktemp -d) || exit 1
 trap 'rm -rf "$work"' EXIT
 
 # All of rt ci's output but its last line, as it comes.
-{ rt ci 2>&1; echo $? >"$work/status"; } | tee "$work/log" | sed '$d'
+{ rt ci 2>&1; echo $? >"$work/status"; } | tee "$work/log" | awk 'NR > 1 { print held; fflush() } { held = $0 }'
 last=$(tail -n 1 "$work/log")
 passed=$(printf '%s\n' "$last" | sed -n 's/^\([0-9]*\) passed, [0-9]* failed.*/\1/p')
 failed=$(printf '%s\n' "$last" | sed -n 's/^[0-9]* passed, \([0-9]*\) failed.*/\1/p')

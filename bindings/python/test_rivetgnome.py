@@ -450,7 +450,7 @@ class Stored(Case):
 
     def test_vectors(self):
         folder = ROOT / "crates" / "hexline"
-        self.assertGreater(self.replay(folder / "stdin", folder / "stdout"), 1900)
+        self.assertGreater(self.replay(folder / "stdin", folder / "stdout"), 3000)
 
 
 class Finding(Case):

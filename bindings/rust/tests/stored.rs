@@ -200,5 +200,7 @@ fn stored() {
         count += 1;
     }
     println!("{count} stored answers: {seen:?}");
-    assert!(count > 1_000);
+    assert!(count > 3_000);
+    // every request of the line program
+    assert_eq!(seen.len(), 28);
 }
