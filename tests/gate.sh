@@ -36,8 +36,8 @@ if [ "$failed" = 0 ]; then
     part 'from C and C++' make -s test-c
     part 'the line program' tests/hexline.sh
     part 'beside the Rust' make -s test-differ
-    part 'abuse' make -s test-abuse
-    part 'fuzz' make -s test-fuzz
+    part 'abuse' tests/abuse/run.sh calls 2000000 100000
+    part 'fuzz' tests/abuse/run.sh lines 200000
 fi
 if [ "$failed" = 0 ]; then
     printf '%s\n' "$last"

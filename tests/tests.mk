@@ -4,7 +4,7 @@
 C_WARN = -Wall -Wextra -Werror -pedantic
 C_HAS = printf '%s\n' '\#include <stdint.h>' | $(1) -fsyntax-only - 2>/dev/null
 
-.PHONY: test-c test-differ differ sample test-abuse test-fuzz abuse
+.PHONY: test-c test-differ differ sample abuse
 
 # Every tests/c/*.c, from C11 and again from C++17.
 test-c: $(LIB)
@@ -33,14 +33,7 @@ differ: $(LIB)
 sample: $(LIB)
 	@tests/sample.sh
 
-# Short runs of the archive and of hexline under abuse.
-test-abuse: $(LIB)
-	@tests/abuse/run.sh calls 2000000 100000
-
-test-fuzz: $(LIB)
-	@tests/abuse/run.sh lines 200000
-
-# The whole ones.
+# The archive and hexline under abuse; the gate has shorter runs.
 abuse: $(LIB)
 	@mkdir -p target && rt check hexline >target/run.log 2>&1 || { cat target/run.log; exit 1; }
 	@tests/abuse/run.sh calls $(or $(N),20000000) 1000000 $(SEED)
