@@ -182,6 +182,15 @@ rg_number rg_next(rg_cursor_state *cursor);
  *
  * Once round counter-clockwise they are 1, 5, 4, 6, 2, 3.
  */
+enum rg_direction {
+    RG_CENTER = 0,
+    RG_K = 1,
+    RG_J = 2,
+    RG_JK = 3,
+    RG_I = 4,
+    RG_IK = 5,
+    RG_IJ = 6
+};
 
 /* The unit vector of a direction.
  * Refused: RG_DIRECTION where `direction` is above 6.

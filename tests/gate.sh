@@ -39,8 +39,8 @@ if [ "$failed" = 0 ]; then
     part 'installed' tests/install.sh
     part 'the Rust binding' make -s test-rust BUILT=1
     part 'beside the Rust' make -s test-differ BUILT=1
-    part 'abuse' make -s test-abuse BUILT=1
-    part 'fuzz' make -s test-fuzz BUILT=1
+    part 'abuse' tests/abuse/run.sh calls 2000000 100000
+    part 'fuzz' tests/abuse/run.sh lines 200000
 fi
 if [ "$failed" = 0 ]; then
     printf '%s\n' "$last"

@@ -4,7 +4,7 @@
 C_WARN = -Wall -Wextra -Werror -pedantic
 C_HAS = printf '%s\n' '\#include <stdint.h>' | $(1) -fsyntax-only - 2>/dev/null
 
-.PHONY: test-c test-python test-differ differ sample test-abuse test-fuzz abuse
+.PHONY: test-c test-python test-rust test-differ differ sample abuse
 
 # Every tests/c/*.c, from C11 and again from C++17.
 test-c: $(LIB)
@@ -42,20 +42,12 @@ sample: $(LIB)
 	@tests/sample.sh
 
 # bindings/rust: its tests, its examples and its layout.
-.PHONY: test-rust
-test-rust: $(if $(BUILT),,$(LIB))
+test-rust: $(LIB)
 	@if ! command -v cargo >/dev/null; then echo 'skipped: the Rust binding (Debian package cargo)'; \
 	elif ! command -v cc >/dev/null; then echo 'skipped: the Rust binding (Debian package gcc)'; \
 	else cd bindings/rust && RIVETGNOME_LIB="$(CURDIR)/target/staticlib" CARGO_TARGET_DIR="$(CURDIR)/target/rust" cargo test --offline --locked -q; fi
 
-# Short runs of the archive and of hexline under abuse.
-test-abuse: $(LIB)
-	@tests/abuse/run.sh calls 2000000 100000
-
-test-fuzz: $(LIB)
-	@tests/abuse/run.sh lines 200000
-
-# The whole ones.
+# The archive and hexline under abuse; the gate has shorter runs.
 abuse: $(LIB)
 	@mkdir -p target && rt check hexline >target/run.log 2>&1 || { cat target/run.log; exit 1; }
 	@tests/abuse/run.sh calls $(or $(N),20000000) 1000000 $(SEED)

@@ -14,6 +14,10 @@ command -v rustc >/dev/null || skip 'abuse (Debian package rustc)'
 command -v cc >/dev/null || skip 'abuse (Debian package gcc)'
 : | rustc --edition 2024 --crate-type lib --crate-name probe --emit metadata --out-dir $out - 2>/dev/null || skip 'abuse (Debian package rustc of a later release)'
 [ -f $archive ] || { echo "no $archive: make lib" >&2; exit 1; }
+# each export but those that take nothing
+for name in $(grep -o 'rg_[a-z0-9_]*(.*' include/rivetgnome.h | sed '/(void)/d; s/(.*//' | sort -u); do
+    grep -q "\b$name\b" tests/abuse/*.rs || { echo "abuse: $name is never called"; exit 1; }
+done
 rustc --edition 2024 -O -D warnings -C link-arg=$archive -o $out/abuse tests/abuse/abuse.rs
 watched='valgrind -q --error-exitcode=9'
 case $1 in

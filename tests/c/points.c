@@ -60,7 +60,7 @@ static const int32_t beyond[] = {-LIMIT - 1, LIMIT + 1, INT32_MIN, INT32_MIN + 1
 static void directions(void)
 {
     static const triple units[] = {{0, 0, 0}, {0, 0, 1}, {0, 1, 0}, {0, 1, 1}, {1, 0, 0}, {1, 0, 1}, {1, 1, 0}};
-    static const uint32_t ring[] = {1, 5, 4, 6, 2, 3};
+    static const uint32_t ring[] = {RG_K, RG_IK, RG_I, RG_IJ, RG_J, RG_JK};
     for (uint32_t d = 0; d <= 6; d++) {
         triple u = units[d];
         point("unit", rg_unit(d), u);
@@ -72,8 +72,8 @@ static void directions(void)
         }
     }
     for (uint32_t n = 0; n <= 5; n++) {
-        number("the centre turned", rg_direction_turn_ccw(0, n), 0);
-        number("the centre turned clockwise", rg_direction_turn_cw(0, n), 0);
+        number("the centre turned", rg_direction_turn_ccw(RG_CENTER, n), RG_CENTER);
+        number("the centre turned clockwise", rg_direction_turn_cw(RG_CENTER, n), RG_CENTER);
         EACH(at, ring) {
             number("turn", rg_direction_turn_ccw(ring[at], n), ring[(at + n) % 6]);
             number("turn clockwise", rg_direction_turn_cw(ring[at], n), ring[(at + 6 - n) % 6]);
