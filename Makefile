@@ -7,6 +7,7 @@ help:
 	@echo 'make test     the whole gate: proofs, must-fail edits, programs, and the tests from outside'
 	@echo 'make differ   compare the library with the Rust original (N=.. random requests an entry, SEED=..)'
 	@echo 'make abuse    wrong numbers and buffers to the library, damaged lines to hexline (N=.. calls, SEED=..)'
+	@echo 'make bench    time the library beside the Rust original, and the workbook'
 	@echo 'make sample   make the stored requests and answers of hexline again, from the Rust'
 	@echo 'make lib      prove and build $(LIB)'
 	@echo 'make install  install the header, the library, its pkg-config file and hexline (PREFIX=/usr/local, DESTDIR=)'

@@ -1,10 +1,10 @@
 # Tests of the archive from outside, for the Makefile at the root to include; it has the rule for
 # $(LIB). A part that this machine cannot run says 'skipped: ..' in one line and is no failure, but
-# for `make differ` and `make sample`, which were asked for by name.
+# for `make differ`, `make bench` and `make sample`, which were asked for by name.
 C_WARN = -Wall -Wextra -Werror -pedantic
 C_HAS = printf '%s\n' '\#include <stdint.h>' | $(1) -fsyntax-only - 2>/dev/null
 
-.PHONY: test-c test-python test-rust test-differ differ sample abuse
+.PHONY: test-c test-python test-rust test-differ differ bench sample abuse
 
 # Every tests/c/*.c, from C11 and again from C++17.
 test-c: $(LIB)
@@ -36,6 +36,10 @@ test-differ: $(LIB)
 differ: $(LIB)
 	@tests/oracle/build.sh $(LIB)
 	@target/oracle/differ $(if $(N),--count $(N)) $(if $(SEED),--seed $(SEED))
+
+# The library's time beside the Rust's.
+bench: $(LIB)
+	@tests/bench/run.sh $(LIB)
 
 # crates/hexline/stdin and stdout again, from the Rust's answers.
 sample: $(LIB)
