@@ -1,5 +1,6 @@
 // The digit walk and the step (grid/algo.rs).
 ghost use mathlib.Core.Path.{_≡_};
+ghost use mathlib.Core.Bool.{cond};
 ghost use Prim.Native.Nat.{_<_, _≤_};
 ghost use Rattle.plane.specs.Strings.{odd};
 ghost use Rattle.index.specs.Layout.{Valid};
@@ -57,30 +58,11 @@ pub(crate) fn is_odd(r: u64) -> bool
     r % 2 == 1
 }
 
-fn new_digit(at_odd: bool, old: u64, way: u8) -> u8
-    requires { ⌜ (old < 7) × (way < 7) ⌝ }
-    ensures { λ d. ⌜ d ≡ tables.newDigit «at_odd» old way ⌝ }
+// One of a pair of tables' entries.
+fn of_pair(at_odd: bool, two: u8, three: u8) -> u8
+    ensures { λ r. ⌜ r ≡ cond «at_odd» two three ⌝ }
 {
-    let a = old as usize;
-    let b = way as usize;
-    if at_odd {
-        NEW_DIRECTION_II[a][b]
-    } else {
-        NEW_DIRECTION_III[a][b]
-    }
-}
-
-fn adjustment(at_odd: bool, old: u64, way: u8) -> u8
-    requires { ⌜ (old < 7) × (way < 7) ⌝ }
-    ensures { λ d. ⌜ d ≡ tables.adjustment «at_odd» old way ⌝ }
-{
-    let a = old as usize;
-    let b = way as usize;
-    if at_odd {
-        NEW_ADJUSTMENT_II[a][b]
-    } else {
-        NEW_ADJUSTMENT_III[a][b]
-    }
+    if at_odd { two } else { three }
 }
 
 // The number with the new digits, and the carry: 0 if none.
@@ -94,6 +76,10 @@ pub fn walk(c: Cell, d: Direction) -> Walked
     requires { ⌜ Valid (c .0) × (d .0 < 7) ⌝ }
     ensures { λ w. ⌜ (w .number ≡ walkedOf (c .0) (d .0)) × (w .carry .0 ≡ carryOf (c .0) (d .0)) ⌝ }
 {
+    let direction_ii = NEW_DIRECTION_II;
+    let direction_iii = NEW_DIRECTION_III;
+    let adjustment_ii = NEW_ADJUSTMENT_II;
+    let adjustment_iii = NEW_ADJUSTMENT_III;
     let mut n = inside::number_of(c);
     let mut r = inside::resolution_number(inside::resolution_of(c));
     let mut way = direction::value(d);
@@ -104,8 +90,10 @@ pub fn walk(c: Cell, d: Direction) -> Walked
         let at = inside::resolution(r);
         let old = inside::direction(n, at);
         let o = is_odd(r);
-        let new = new_digit(o, old, way);
-        way = adjustment(o, old, way);
+        let a = old as usize;
+        let b = way as usize;
+        let new = of_pair(o, direction_ii[a][b], direction_iii[a][b]);
+        way = of_pair(o, adjustment_ii[a][b], adjustment_iii[a][b]);
         n = inside::set_direction(n, at, inside::digit(new as u64));
         r -= 1;
     }

@@ -1,7 +1,7 @@
 -- `grid::algo::walk` meets its contract, by the loop's laws in `Walks`. Assumes nothing.
 use borrow.Author.Needs.{needs}
-use mathlib.Core.Path.{_≡_, sym, ap, ap₂, _∙_, subst, subst₂}
-use mathlib.Core.Bool.{Bool}
+use mathlib.Core.Path.{_≡_, refl, sym, ap, ap₂, _∙_, subst, subst₂}
+use mathlib.Core.Bool.{Bool, true, false, cond}
 use mathlib.Core.Logic.{_⊎_, inl, inr, ⊎-elim}
 use Prim.Native.Nat.{ℕ, _-_, _^_, _<_, _≤_}
 use native.Mathlib.Omega.{arith}
@@ -21,10 +21,10 @@ record Inv (m k way n r c : ℕ) : Type 0 where
   walking : Walking m (resOf m) way n r c
 
 abbrev Inv-loop : tie.InvT-loop
-Inv-loop n₀ r₀ way₀ n r way = Inv n₀ r₀ way₀ n r way
+Inv-loop _ _ _ _ n₀ r₀ way₀ n r way = Inv n₀ r₀ way₀ n r way
 
 abbrev μ-loop : tie.MeasureT-loop
-μ-loop n₀ r₀ way₀ n r way = r
+μ-loop _ _ _ _ n₀ r₀ way₀ n r way = r
 
 -- in the words of the calls
 first : (x d m k way res : ℕ) → Valid x → d < 7 → m ≡ x → res ≡ resOf x → k ≡ res → way ≡ d → Inv m k way m k way
@@ -64,6 +64,11 @@ module _ (m k way n r c at old : ℕ) (i : Inv m k way n r c) (p : 0 < r) (ea : 
   new-small : (o : Bool) (new : ℕ) → new ≡ newDigit o old c → new < 7
   new-small o new e = subst (λ (x : ℕ). x < 7) (sym e) (digit-below o old c old-small (i .walking .direction))
 
+-- an entry of a pair of tables
+of-tables : (f : Bool → ℕ → ℕ → ℕ) (o : Bool) (old way x two three : ℕ) → x ≡ cond o two three → two ≡ f true old way → three ≡ f false old way → x ≡ f o old way
+of-tables f true old way x two three e p q = e ∙ p
+of-tables f false old way x two three e p q = e ∙ q
+
 -- the loop is left at the last digit, or at the direction 0
 done : (m k way n r c x d e : ℕ) → n < 2 ^ 64 → Inv m k way n r c → (r ≤ 0) ⊎ (c ≡ 0) → m ≡ x → way ≡ d → e ≡ c → (n ≡ walkedOf x d) × (e ≡ carryOf x d)
 done m k way n r c x d e h i o em ed ee =
@@ -100,42 +105,82 @@ direction-requires c κs = let l = c .before .before .before .loop in let p = l 
 is-odd-requires : tie.Need-is-odd-requires Inv-loop μ-loop
 is-odd-requires c κs = tt
 
-new-digit-requires : tie.Need-new-digit-requires Inv-loop μ-loop
-new-digit-requires c κs =
+cast-b : tie.Need-cast-b Inv-loop μ-loop
+cast-b c = search needs
+
+-- the row and the column are there
+in-table : (c : tie.After-is-odd Inv-loop μ-loop) → (c .before .direction .result < 7) × (c .before .before .before .before .before .loop .way < 7)
+in-table c =
     let d = c .before in
     let a = d .before in
     let l = a .before .before .before .loop in
     (old-small _ _ _ (l .n) (l .r) (l .way) _ _ (l .inv) (omega arith) (a .resolution .ensures) (d .direction .ensures), l .inv .walking .direction)
 
-adjustment-requires : tie.Need-adjustment-requires Inv-loop μ-loop
-adjustment-requires c κs =
-    let d = c .before .before in
-    let a = d .before in
-    let l = a .before .before .before .loop in
-    (old-small _ _ _ (l .n) (l .r) (l .way) _ _ (l .inv) (omega arith) (a .resolution .ensures) (d .direction .ensures), l .inv .walking .direction)
+mul-of-pair : tie.Need-mul-of-pair Inv-loop μ-loop
+mul-of-pair c = let h = in-table c in omega arith
+
+index-1-of-pair : tie.Need-index-1-of-pair Inv-loop μ-loop
+index-1-of-pair c = let h = in-table c in omega arith
+
+index-2-of-pair : tie.Need-index-2-of-pair Inv-loop μ-loop
+index-2-of-pair c = let h = in-table c in omega arith
+
+mul-of-pair-2 : tie.Need-mul-of-pair-2 Inv-loop μ-loop
+mul-of-pair-2 c = let h = in-table (c .before) in omega arith
+
+index-1-of-pair-2 : tie.Need-index-1-of-pair-2 Inv-loop μ-loop
+index-1-of-pair-2 c = let h = in-table (c .before) in omega arith
+
+index-2-of-pair-2 : tie.Need-index-2-of-pair-2 Inv-loop μ-loop
+index-2-of-pair-2 c = let h = in-table (c .before) in omega arith
+
+of-pair-requires : tie.Need-of-pair-requires Inv-loop μ-loop
+of-pair-requires c κs = tt
+
+mul-of-pair-3 : tie.Need-mul-of-pair-3 Inv-loop μ-loop
+mul-of-pair-3 c = let h = in-table (c .before .before .before) in omega arith
+
+index-1-of-pair-3 : tie.Need-index-1-of-pair-3 Inv-loop μ-loop
+index-1-of-pair-3 c = let h = in-table (c .before .before .before) in omega arith
+
+index-2-of-pair-3 : tie.Need-index-2-of-pair-3 Inv-loop μ-loop
+index-2-of-pair-3 c = let h = in-table (c .before .before .before) in omega arith
+
+mul-of-pair-4 : tie.Need-mul-of-pair-4 Inv-loop μ-loop
+mul-of-pair-4 c = let h = in-table (c .before .before .before .before) in omega arith
+
+index-1-of-pair-4 : tie.Need-index-1-of-pair-4 Inv-loop μ-loop
+index-1-of-pair-4 c = let h = in-table (c .before .before .before .before) in omega arith
+
+index-2-of-pair-4 : tie.Need-index-2-of-pair-4 Inv-loop μ-loop
+index-2-of-pair-4 c = let h = in-table (c .before .before .before .before) in omega arith
+
+of-pair-requires-2 : tie.Need-of-pair-requires-2 Inv-loop μ-loop
+of-pair-requires-2 c κs = tt
 
 cast-digit : tie.Need-cast-digit Inv-loop μ-loop
 cast-digit c = search needs
 
-digit-requires : tie.Need-digit-requires Inv-loop μ-loop
-digit-requires c κs =
-    let g = c .before in
-    let o = g .before in
+-- the new digit is the table's
+new-is : (c : tie.After-of-pair Inv-loop μ-loop) → let o = c .before .before .before in c .of-pair .result ≡ newDigit (o .is-odd .result) (o .before .direction .result) (o .before .before .before .before .before .loop .way)
+new-is c = let o = c .before .before .before in of-tables newDigit (o .is-odd .result) (o .before .direction .result) (o .before .before .before .before .before .loop .way) _ _ _ (c .of-pair .ensures) refl refl
+
+new-below : (c : tie.After-of-pair Inv-loop μ-loop) → c .of-pair .result < 7
+new-below c =
+    let o = c .before .before .before in
     let d = o .before in
     let a = d .before in
     let l = a .before .before .before .loop in
-    let h = new-small _ _ _ (l .n) (l .r) (l .way) _ _ (l .inv) (omega arith) (a .resolution .ensures) (d .direction .ensures) (o .is-odd .result) _ (g .new-digit .ensures) in
-    omega arith
+    new-small _ _ _ (l .n) (l .r) (l .way) _ _ (l .inv) (omega arith) (a .resolution .ensures) (d .direction .ensures) (o .is-odd .result) _ (new-is c)
+
+digit-requires : tie.Need-digit-requires Inv-loop μ-loop
+digit-requires c κs = let h = new-below (c .before .before .before) in omega arith
 
 set-direction-requires : tie.Need-set-direction-requires Inv-loop μ-loop
 set-direction-requires c κs =
-    let g = c .before .before in
-    let o = g .before in
-    let d = o .before in
-    let a = d .before in
-    let l = a .before .before .before .loop in
-    let p = l .inv .walking .place in
-    let h = new-small _ _ _ (l .n) (l .r) (l .way) _ _ (l .inv) (omega arith) (a .resolution .ensures) (d .direction .ensures) (o .is-odd .result) _ (g .new-digit .ensures) in
+    let p = c .before .before .before .before in
+    let b = p .before .before .before .before .before .before .before .before .loop .inv .walking .place in
+    let h = new-below p in
     omega arith
 
 sub-r : tie.Need-sub-r Inv-loop μ-loop
@@ -147,13 +192,14 @@ loop-less c = omega arith
 loop-again : tie.Need-loop-again Inv-loop μ-loop
 loop-again c =
     let x = c .before in
-    let j = x .before in
-    let g = j .before in
-    let o = g .before in
+    let q = x .before in
+    let p = q .before .before .before in
+    let o = p .before .before .before in
     let d = o .before in
     let a = d .before in
     let l = a .before .before .before .loop in
-    next _ _ _ (l .n) (l .r) (l .way) _ _ (l .inv) (omega arith) (a .resolution .ensures) (d .direction .ensures) (o .is-odd .result) _ _ _ _ (o .is-odd .ensures) (g .new-digit .ensures) (j .adjustment .ensures) (x .digit .ensures) (c .set-direction .ensures)
+    let f = of-tables adjustment (o .is-odd .result) (d .direction .result) (l .way) _ _ _ (q .of-pair2 .ensures) refl refl in
+    next _ _ _ (l .n) (l .r) (l .way) _ _ (l .inv) (omega arith) (a .resolution .ensures) (d .direction .ensures) (o .is-odd .result) _ _ _ _ (o .is-odd .ensures) (new-is p) f (x .digit .ensures) (c .set-direction .ensures)
 
 new-unchecked-requires : tie.Need-new-unchecked-requires Inv-loop μ-loop
 new-unchecked-requires c κs = c .before .loop .inv .walking .direction
@@ -179,8 +225,21 @@ walk-spec =
     resolution-requires
     direction-requires
     is-odd-requires
-    new-digit-requires
-    adjustment-requires
+    cast-b
+    mul-of-pair
+    index-1-of-pair
+    index-2-of-pair
+    mul-of-pair-2
+    index-1-of-pair-2
+    index-2-of-pair-2
+    of-pair-requires
+    mul-of-pair-3
+    index-1-of-pair-3
+    index-2-of-pair-3
+    mul-of-pair-4
+    index-1-of-pair-4
+    index-2-of-pair-4
+    of-pair-requires-2
     cast-digit
     digit-requires
     set-direction-requires
