@@ -1,8 +1,10 @@
 -- Turns of directions and of points: the other sense undoes one, and six give back what was turned. Assumes nothing.
-use mathlib.Core.Path.{_≡_, ap, ap₂, _∙_}
-use mathlib.Core.Bool.{Bool, true, false, not}
-use Prim.Native.Nat.{ℕ, zero, suc, _<_}
+use mathlib.Core.Path.{_≡_, refl, sym, ap, ap₂, _∙_, subst}
+use mathlib.Core.Bool.{Bool, true, false, not, cond}
+use Prim.Native.Nat.{ℕ, zero, suc, _≤_, _<_}
 use native.Mathlib.Omega.{arith}
+use borrow.Author.Tests.{ltb-true, ltb-false}
+use lib.Dec.{ltb}
 use lib.IntN.{ℤ, negℤ, negℤ-negℤ, _-ℤ_}
 use Rattle.plane.specs.Directions.{unit, turn, turns}
 use Rattle.plane.specs.Points.{Same, same, pair, ij, turned}
@@ -20,6 +22,30 @@ turn-below false = at-lt 7 7 (turn false) tt
 pub turns-below : (o : Bool) (n d : ℕ) → d < 7 → turns o n d < 7
 turns-below o zero d h = h
 turns-below o (suc n) d h = turn-below o (turns o n d) (turns-below o n d h)
+
+-- x is d after k of a count's turns: all of them where the count has no more
+pub record Turned (o : Bool) (count d k x : ℕ) : Type 0 where
+  pub going : k ≤ count → x ≡ turns o k d
+  pub gone : count ≤ k → x ≡ turns o count d
+
+pub unturned : (o : Bool) (count d : ℕ) → Turned o count d 0 d
+unturned o count d = record { going = λ h. refl; gone = λ h. ap (λ (n : ℕ). turns o n d) (let e : 0 ≡ count = omega arith in e) }
+
+pub turned-once-more : (o : Bool) (count d k x y : ℕ) (b : Bool) → b ≡ ltb k count → Turned o count d k x → y ≡ cond b (turn o x) x → Turned o count d (suc k) y
+turned-once-more o count d k x y true eb t e =
+    let l : k < count = ltb-true k count (sym eb) in
+    let f : y ≡ turns o (suc k) d = e ∙ ap (turn o) (t .going (omega arith)) in
+    record { going = λ h. f; gone = λ h. f ∙ ap (λ (n : ℕ). turns o n d) (let q : suc k ≡ count = omega arith in q) }
+turned-once-more o count d k x y false eb t e =
+    let l : count ≤ k = ltb-false k count (sym eb) in
+    record { going = λ h. absurd (omega arith); gone = λ h. e ∙ t .gone l }
+
+pub turned-below : (o : Bool) (count d k x : ℕ) → d < 7 → Turned o count d k x → x < 7
+turned-below o count d k x h t = by (ltb k count) refl
+  where
+    by : (b : Bool) → b ≡ ltb k count → x < 7
+    by true e = subst (λ (n : ℕ). n < 7) (sym (t .going (let l = ltb-true k count (sym e) in omega arith))) (turns-below o k d h)
+    by false e = subst (λ (n : ℕ). n < 7) (sym (t .gone (ltb-false k count (sym e)))) (turns-below o count d h)
 
 pub turn-undone : (o : Bool) (d : ℕ) → d < 7 → turn (not o) (turn o d) ≡ d
 turn-undone true = at-eq 7 (λ (d : ℕ). turn false (turn true d)) (λ (d : ℕ). d) tt

@@ -1,5 +1,6 @@
 ghost use mathlib.Core.Path.{_≡_};
-ghost use Prim.Native.Nat.{_<_};
+ghost use mathlib.Core.Bool.{cond};
+ghost use Prim.Native.Nat.{_≤_, _<_};
 ghost use Rattle.plane.specs.Directions.{unit, turn, turns};
 use crate::ijk::IJK;
 
@@ -51,16 +52,23 @@ pub fn rotate60_once(d: Direction, ccw: bool) -> Direction
     }
 }
 
-// The direction turned `count` times.
-pub fn rotate60(d: Direction, ccw: bool, count: u8) -> Direction
+// Turned once, or not.
+fn rotate60_where(turns: bool, d: Direction, ccw: bool) -> Direction
     requires { ⌜ d .0 < 7 ⌝ }
+    ensures { λ r. ⌜ r .0 ≡ cond turns (turn ccw (d .0)) (d .0) ⌝ }
+{
+    let turned = rotate60_once(d, ccw);
+    if turns { turned } else { d }
+}
+
+// The direction turned `count` times, with no branch, since no count foretells the next.
+pub fn rotate60(d: Direction, ccw: bool, count: u8) -> Direction
+    requires { ⌜ (d .0 < 7) × (count ≤ 5) ⌝ }
     ensures { λ r. ⌜ r .0 ≡ turns ccw count (d .0) ⌝ }
 {
-    let mut r = d;
-    let mut n: u8 = 0;
-    while n < count {
-        r = rotate60_once(r, ccw);
-        n += 1;
-    }
-    r
+    let one = rotate60_where(0 < count, d, ccw);
+    let two = rotate60_where(1 < count, one, ccw);
+    let three = rotate60_where(2 < count, two, ccw);
+    let four = rotate60_where(3 < count, three, ccw);
+    rotate60_where(4 < count, four, ccw)
 }

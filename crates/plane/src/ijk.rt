@@ -1,4 +1,5 @@
 ghost use mathlib.Core.Path.{_≡_};
+ghost use mathlib.Core.Bool.{_&&_};
 ghost use Prim.Native.Nat.{_<_, _≤_};
 ghost use lib.IntN.{natAbs};
 ghost use mir.Syntax.{w32};
@@ -65,6 +66,13 @@ pub fn normalize(p: IJK) -> IJK
     }
 }
 
+// Whether both hold. Both are known, so that no branch is made.
+fn both(a: bool, b: bool) -> bool
+    ensures { λ r. ⌜ r ≡ (a && b) ⌝ }
+{
+    if a { b } else { false }
+}
+
 // Whether two triples are equal.
 fn equal(p: IJK, q: IJK) -> bool
     ensures { λ r. ⌜ r ≡ points.equals p q ⌝ }
@@ -75,11 +83,10 @@ fn equal(p: IJK, q: IJK) -> bool
     let d = q.i;
     let e = q.j;
     let f = q.k;
-    if a == d {
-        if b == e { c == f } else { false }
-    } else {
-        false
-    }
+    let i = a == d;
+    let j = b == e;
+    let k = c == f;
+    both(i, both(j, k))
 }
 
 // Whether two triples mean one point.

@@ -1,48 +1,49 @@
--- `plane::direction::rotate60` meets its contract: after n rounds the direction is turned n times. Assumes nothing.
-use mathlib.Core.Path.{_≡_, refl, sym, ap, _∙_, subst}
-use Prim.Native.Nat.{ℕ, _-_, _≤_, _<_}
+-- `plane::direction::rotate60` meets its contract: each call is one more of the turns, or none where they are done. Assumes nothing.
+use mathlib.Core.Path.{refl}
+use Prim.Native.Nat.{ℕ}
+use borrow.Author.Needs.{needs}
 use native.Mathlib.Omega.{arith}
-use native.Mathlib.Numerals.{add-one}
-use Rattle.plane.specs.Directions.{turn, turns}
-use Rattle.plane.proofs.Turns.{turns-below}
+use Rattle.plane.proofs.Turns.{Turned, unturned, turned-once-more, turned-below}
 use Rattle.plane.proofs.direction.rotate60.Statement.{statement}
 use Rattle.plane.proofs.direction.rotate60.Tie as tie
 
-abbrev Inv-loop : tie.InvT-loop
-Inv-loop ccw count r₀ n₀ r n = (n ≤ count) × (r₀ .0 < 7) × (r .0 ≡ turns ccw n (r₀ .0))
+one : (c : tie.After-rotate60-where) → Turned (c .before .args .ccw) (c .before .args .count) (c .before .args .d .0) 1 (c .rotate60-where .result .0)
+one c = turned-once-more _ _ _ 0 _ _ _ refl (unturned _ _ _) (c .rotate60-where .ensures)
 
-abbrev μ-loop : tie.MeasureT-loop
-μ-loop ccw count r₀ n₀ r n = count - n
+two : (c : tie.After-rotate60-where2) → Turned (c .before .before .args .ccw) (c .before .before .args .count) (c .before .before .args .d .0) 2 (c .rotate60-where2 .result .0)
+two c = turned-once-more _ _ _ 1 _ _ _ refl (one (c .before)) (c .rotate60-where2 .ensures)
 
-loop-holds : tie.Need-loop-holds Inv-loop μ-loop
-loop-holds c = (omega arith, c .pre, refl)
+three : (c : tie.After-rotate60-where3) → Turned (c .before .before .before .args .ccw) (c .before .before .before .args .count) (c .before .before .before .args .d .0) 3 (c .rotate60-where3 .result .0)
+three c = turned-once-more _ _ _ 2 _ _ _ refl (two (c .before)) (c .rotate60-where3 .ensures)
 
-rotate60-once-requires : tie.Need-rotate60-once-requires Inv-loop μ-loop
-rotate60-once-requires c κs =
-    let l = c .before .loop in
-    let a = c .before .before .args in
-    subst (λ (d : ℕ). d < 7) (sym (l .inv .2)) (turns-below (a .ccw) (l .n) (a .d .0) (l .inv .1))
+four : (c : tie.After-rotate60-where4) → Turned (c .before .before .before .before .args .ccw) (c .before .before .before .before .args .count) (c .before .before .before .before .args .d .0) 4 (c .rotate60-where4 .result .0)
+four c = turned-once-more _ _ _ 3 _ _ _ refl (three (c .before)) (c .rotate60-where4 .ensures)
 
-add-n : tie.Need-add-n Inv-loop μ-loop
-add-n c = omega arith
+rotate60-where-requires : tie.Need-rotate60-where-requires
+rotate60-where-requires c κs = search needs
 
-loop-less : tie.Need-loop-less Inv-loop μ-loop
-loop-less c = omega arith
+rotate60-where-requires-2 : tie.Need-rotate60-where-requires-2
+rotate60-where-requires-2 c κs = turned-below _ _ _ 1 _ (c .before .pre .0) (one c)
 
-loop-again : tie.Need-loop-again Inv-loop μ-loop
-loop-again c =
-    let l = c .before .before .loop in
-    let a = c .before .before .before .args in
-    (omega arith, l .inv .1, c .rotate60-once .ensures ∙ ap (turn (a .ccw)) (l .inv .2) ∙ ap (λ (n : ℕ). turns (a .ccw) n (a .d .0)) (sym (add-one (l .n))))
+rotate60-where-requires-3 : tie.Need-rotate60-where-requires-3
+rotate60-where-requires-3 c κs = turned-below _ _ _ 2 _ (c .before .before .pre .0) (two c)
 
-returns : tie.Need-returns Inv-loop μ-loop
-returns c =
-    let l = c .before .loop in
-    let a = c .before .before .args in
-    let e : l .n ≡ a .count = omega arith in
-    l .inv .2 ∙ ap (λ (n : ℕ). turns (a .ccw) n (a .d .0)) e
+rotate60-where-requires-4 : tie.Need-rotate60-where-requires-4
+rotate60-where-requires-4 c κs = turned-below _ _ _ 3 _ (c .before .before .before .pre .0) (three c)
+
+rotate60-where-requires-5 : tie.Need-rotate60-where-requires-5
+rotate60-where-requires-5 c κs = turned-below _ _ _ 4 _ (c .before .before .before .before .pre .0) (four c)
+
+returns : tie.Need-returns
+returns c = turned-once-more _ _ _ 4 _ _ _ refl (four (c .before)) (c .rotate60-where5 .ensures) .gone (c .before .before .before .before .before .pre .1)
 
 pub rotate60-spec : {M : Type 1} → statement M
 rotate60-spec =
     tie.close
-    (tie.spec Inv-loop μ-loop loop-holds rotate60-once-requires add-n loop-less loop-again returns)
+    (tie.spec
+    rotate60-where-requires
+    rotate60-where-requires-2
+    rotate60-where-requires-3
+    rotate60-where-requires-4
+    rotate60-where-requires-5
+    returns)
