@@ -4,6 +4,7 @@ use native.Mathlib.Omega.{arith}
 use borrow.Author.Needs.{needs}
 use mir.Syntax.{w32}
 use mir.Facts.{toZ-pos}
+use Rattle.plane.specs.Directions.{triple}
 use Rattle.plane.proofs.direction.coordinate.Statement.{statement}
 use Rattle.plane.proofs.direction.coordinate.Tie as tie
 
@@ -22,7 +23,7 @@ returns c =
     let i = toZ-pos w32 {n = d / 4} (omega arith) in
     let j = toZ-pos w32 {n = d / 2 % 2} (omega arith) in
     let k = toZ-pos w32 {n = d % 2} (omega arith) in
-    rw (i, j, k)
+    λ x. triple (i x) (j x) (k x)
 
 pub coordinate-spec : {M : Type 1} → statement M
 coordinate-spec = tie.close (tie.spec cast-t4 cast-t7 cast-t9 returns)
