@@ -9,14 +9,14 @@ use lib.ListN.{length}
 use borrow.Author.Tests.{eq-eqb, ne-eqb}
 use Rattle.plane.specs.Directions.{turns}
 use Rattle.plane.specs.Strings.{Digits}
-use Rattle.index.specs.Layout.{baseOf, resOf, isPentagonal, firstOf, Valid}
+use Rattle.index.specs.Layout.{baseOf, resOf, digit, isPentagonal, firstOf, Valid}
 use Rattle.index.specs.View.{used, pack, first, Fit}
 use Rattle.index.specs.Refusals.{answered, refused}
 use Rattle.index.specs.Written.{WithDigits}
 use Rattle.index.proofs.Runs.{length-used}
 use Rattle.index.proofs.View.{fit, first-used}
 use Rattle.index.proofs.Redrawn.{redrawn-cell, redrawn-twice}
-use Rattle.index.proofs.Loose.{loose-used, loose-res}
+use Rattle.index.proofs.Loose.{loose-used, loose-rest, loose-res}
 use Rattle.index.proofs.Turning.{length-turned, digits-turned, first-turned}
 use Rattle.grid.specs.Walks.{walked, walkedOf, carryOf}
 use Rattle.grid.specs.Steps.{inside, leaves, outOfDeleted, staysIn, stepOf}
@@ -95,6 +95,11 @@ module _ (n way : ℕ) (v : Valid n) (hw : way < 7) where
       let hb : baseOf n ≤ 127 = omega (arith, v .base) in
       let hs : length (news n way) ≤ 15 = rw news-length (omega arith) in
       ap (used (pack (baseOf n) (news n way))) (loose-res (baseOf n) (news n way) hb hs news-digits) ∙ loose-used (baseOf n) (news n way) hb hs news-digits
+
+  pub walked-rest : (s : ℕ) → resOf (walkedOf n way) < s → s ≤ 15 → digit (walkedOf n way) s ≡ 7
+  unfolding walkedOf
+  walked-rest s g l =
+      loose-rest (baseOf n) (news n way) (omega (arith, v .base)) (rw news-length (omega arith)) news-digits s (subst (λ (k : ℕ). k < s) (walked-res ∙ sym news-length) g) l
 
   pub walked-first : firstOf (walkedOf n way) (resOf (walkedOf n way)) ≡ first (news n way)
   walked-first = sym (first-used (walkedOf n way) (resOf (walkedOf n way))) ∙ ap first walked-used

@@ -1,11 +1,15 @@
 pub mod Rules
 pub mod Some
 pub mod First
+pub mod Digitwise
 pub mod Validity
 pub mod Answers
 pub mod Sum
 pub mod Runs
 pub mod View
+pub mod Flags
+pub mod Zeros
+pub mod Wordwise
 pub mod Cut
 pub mod Write
 pub mod Redrawn

@@ -1,10 +1,12 @@
 -- Rules that are tried in order: a refusal is given exactly where it is the first met, and the answer exactly where all is clear. Assumes nothing.
 use mathlib.Core.Path.{_≡_, refl, sym, ap, _∙_}
-use mathlib.Core.Bool.{Bool, true, false}
+use mathlib.Core.Bool.{Bool, true, false, cond}
 use mathlib.Core.List.{List, [], _∷_, _++_}
 use mathlib.Core.Logic.{_⊎_, inl, inr, _↔_}
-use Prim.Native.Nat.{ℕ}
+use Prim.Native.Nat.{ℕ, _≤_}
 use native.Mathlib.Omega.{arith}
+use lib.Dec.{eqb}
+use borrow.Author.Tests.{ne-eqb}
 use Rattle.index.specs.Refusals.{Rule, _when_, Outcome, answered, refused, judged, Clear, Met}
 
 module _ {A : Type 0} where
@@ -19,6 +21,14 @@ module _ {A : Type 0} where
   pub none-answered : (a : A) → judged [] a ≡ answered a
   unfolding judged
   none-answered a = refl
+
+  -- a test before others, where what they come to is the number of a refusal, at most m, or 0; the others need only be right where it fails
+  pub numbered : (m j k k' : ℕ) (t t' : Bool) (rules : List Rule) (a : A) → 1 ≤ j → j ≤ m → k' ≡ cond t' j k → t' ≡ t →
+      (t ≡ false → (k ≤ m) × (judged rules a ≡ cond (eqb k 0) (answered a) (refused k))) →
+      (k' ≤ m) × (judged ((j when t) ∷ rules) a ≡ cond (eqb k' 0) (answered a) (refused k'))
+  unfolding judged
+  numbered m j k k' true t' rules a l u e q h = rw (e, q, ne-eqb j 0 (λ p. omega arith)) (u, refl)
+  numbered m j k k' false t' rules a l u e q h = rw (e, q) (h refl)
 
   pub refused-inj : {j k : ℕ} → _≡_ {A = Outcome A} (refused j) (refused k) → j ≡ k
   refused-inj e = cc

@@ -4,10 +4,9 @@ use mathlib.Core.Path.{_≡_, refl, sym, ap, ap₂, _∙_, subst}
 use mathlib.Core.Bool.{Bool, true, false, not, cond}
 use mathlib.Core.Logic.{⊎-elim}
 use mathlib.Core.List.{List, [], _∷_, map}
-use Prim.Native.Nat.{ℕ, zero, suc, _+_, _-_, _/_, _^_, _≤_, _<_}
+use Prim.Native.Nat.{ℕ, zero, suc, _-_, _^_, _≤_, _<_}
 use native.Mathlib.Nat.{eq-zero-or-pos}
 use native.Mathlib.Omega.{arith}
-use native.Mathlib.Numerals.{add-one}
 use lib.Dec.{T, eqb, lit<}
 use lib.ListN.{length}
 use borrow.Author.Tests.{eq-eqb, ne-eqb}
@@ -15,13 +14,11 @@ use Rattle.plane.specs.Directions.{turn, turns}
 use Rattle.plane.specs.Strings.{Digits}
 use Rattle.plane.proofs.Every.{every, at}
 use Rattle.plane.proofs.Turns.{turns-below, turn-undone, six-turns}
-use Rattle.index.specs.Layout.{digit, resOf, baseOf, isPentagonal, Valid}
+use Rattle.index.specs.Layout.{resOf, baseOf, isPentagonal, Valid}
 use Rattle.index.specs.View.{used, pack, first, Fit}
-use Rattle.index.specs.Written.{Written, WithDigits}
 use Rattle.index.specs.Turns.{turnedBy, pentagonCount, pentagonTurned}
 use Rattle.index.proofs.Runs.{length-used}
 use Rattle.index.proofs.View.{packed, fit, pack-valid, pack-res, pack-base}
-use Rattle.index.proofs.Redrawn.{used-same}
 use Rattle.index.proofs.Loose.{loose-base, loose-res, loose-used}
 
 -- strings
@@ -89,31 +86,6 @@ first-turned o k (d ∷ ds) h =
     let b = ne-eqb (first (map (turns o k) ds)) 0 (λ q. let y = not-zero o k (first ds) (first-below ds (h .1)) (sym e ∙ q) in omega arith) in
     rw (a, b) e)
     (eq-zero-or-pos (first ds))
-
--- the loop of a turn: the digits to i are turned, the others and the bits above them as they were
-pub record Part (o : Bool) (k n i y : ℕ) : Type 0 where
-  pub upper : y / 2 ^ 45 ≡ n / 2 ^ 45
-  pub digits : used y i ≡ map (turns o k) (used n i)
-  pub rest : (s : ℕ) → i < s → s ≤ 15 → digit y s ≡ digit n s
-
-pub none : (o : Bool) (k n : ℕ) → Part o k n 0 n
-unfolding used
-none o k n = record { upper = refl; digits = refl; rest = λ s g l. refl }
-
-pub more : (o : Bool) (k n i y d e z : ℕ) → i < 15 → Part o k n i y → d ≡ digit y (i + 1) → e ≡ turns o k d → Written y (i + 1) e z → Part o k n (i + 1) z
-unfolding used
-more o k n i y d e z h p ed ee w =
-    record {
-      upper = w .upper ∙ p .upper;
-      digits = rw add-one (ap₂ _∷_ (rw add-one at (w .there) ∙ ee ∙ ap (turns o k) (ed ∙ p .rest (i + 1) (omega arith) (omega arith) ∙ rw add-one)) (used-same y z i (λ s g l. w .other s g (omega arith) (λ q. omega arith)) ∙ p .digits));
-      rest = λ s g l. w .other s (omega arith) l (λ q. omega arith) ∙ p .rest s (omega arith) l;
-    }
-
-pub all : (o : Bool) (k n i y : ℕ) → i ≡ resOf n → Part o k n i y → WithDigits n (map (turns o k) (used n (resOf n))) y
-all o k n i y e p =
-    let d = p .digits in
-    let r = p .rest in
-    record { upper = p .upper; digits = rw e at d; rest = rw e at r }
 
 -- the pentagon turn
 no-one : (f : ℕ → ℕ) → T (every 7 (λ x. not (eqb (f x) 1))) → (x : ℕ) → x < 7 → f x ≡ 1 → ⊥

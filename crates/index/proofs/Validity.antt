@@ -8,7 +8,7 @@ use lib.Dec.{eqb}
 use borrow.Author.Tests.{eqb-true, eqb-false, ltb-false, eq-eqb, ne-eqb, le-ltb, not-false}
 use Rattle.index.specs.Layout.{topBit, modeOf, reservedOf, resOf, baseOf, digit, firstOf, isPentagonal, Valid}
 use Rattle.index.specs.Refusals.{Clear, answered}
-use Rattle.index.specs.Check.{cellRules, checkOf}
+use Rattle.index.specs.Check.{someOther, cellRules, checkOf}
 use Rattle.index.proofs.Rules.{clear-answered, answered-clear}
 use Rattle.index.proofs.Some.{some-off, off-some}
 
@@ -20,6 +20,11 @@ off-and : (a : Bool) (x : ℕ) → (a ≡ true → x ≡ 1 → ⊥) → a && eqb
 off-and true x h = ne-eqb x 1 (h refl)
 off-and false x h = refl
 
+pub sevens-past : (n : ℕ) → someOther n ≡ false → (r : ℕ) → resOf n < r → r ≤ 15 → digit n r ≡ 7
+sevens-past n h r g l =
+    let q : resOf n + (r - resOf n) ≡ r = omega arith in
+    subst (λ (x : ℕ). digit n x ≡ 7) q (eqb-true _ _ (not-false _ (some-off _ (15 - resOf n) (r - resOf n) h (omega arith) (omega arith))))
+
 pub clear-valid : (n : ℕ) → Clear (cellRules n) → Valid n
 clear-valid n c =
     let t = eqb-false (topBit n) 1 (c .0) in
@@ -30,9 +35,7 @@ clear-valid n c =
       reserved = eqb-true _ _ (not-false _ (c .1 .1 .0));
       base = b;
       small = λ r g l. let e = eqb-false (digit n r) 7 (some-off _ (resOf n) r (c .1 .1 .1 .1 .0) g l) in let m : digit n r < 8 = mod-lt _ (omega arith) in omega arith;
-      rest = λ r g l.
-          let q : resOf n + (r - resOf n) ≡ r = omega arith in
-          subst (λ (x : ℕ). digit n x ≡ 7) q (eqb-true _ _ (not-false _ (some-off _ (15 - resOf n) (r - resOf n) (c .1 .1 .1 .1 .1 .0) (omega arith) (omega arith))));
+      rest = sevens-past n (c .1 .1 .1 .1 .1 .0);
       kept = and-off _ _ (c .1 .1 .1 .1 .1 .1 .0);
     }
 

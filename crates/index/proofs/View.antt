@@ -36,7 +36,7 @@ small-used n (suc k) h =
     let l = h (suc k) (omega arith) (le-refl _) in
     (omega arith, small-used n k (λ r g m. h r g (le-step m)))
 
-pub used-small : (n k : ℕ) → Digits (used n k) → (r : ℕ) → 1 ≤ r → r ≤ k → digit n r ≤ 6
+used-small : (n k : ℕ) → Digits (used n k) → (r : ℕ) → 1 ≤ r → r ≤ k → digit n r ≤ 6
 unfolding used
 used-small n zero s r g h = absurd (none r g h)
   where

@@ -5,3 +5,4 @@ pub mod Check
 pub mod Ancestor
 pub mod Written
 pub mod Turns
+pub mod Words

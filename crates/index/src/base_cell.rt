@@ -2,19 +2,17 @@
 ghost use mathlib.Core.Path.{_≡_};
 ghost use Prim.Native.Nat.{_≤_};
 ghost use Rattle.index.specs.Layout.{isPentagonal};
-use crate::BaseCell;
+use crate::bits::sel;
 
 const PENTAGONS_LOW: u64 = 0x8402_0040_0100_4010;
 
 const PENTAGONS_HIGH: u64 = 0x20_0802_0008_0100;
 
-pub(crate) fn is_pentagon(b: BaseCell) -> bool
-    requires { ⌜ b .0 ≤ 121 ⌝ }
-    ensures { λ t. ⌜ t ≡ isPentagonal (b .0) ⌝ }
+// Of any number that the field of a base cell holds.
+pub(crate) fn is_pentagon(b: u64) -> bool
+    requires { ⌜ b ≤ 127 ⌝ }
+    ensures { λ t. ⌜ t ≡ isPentagonal b ⌝ }
 {
-    let x = b.0;
-    if x < 64 {
-        return (PENTAGONS_LOW >> x) % 2 == 1;
-    }
-    (PENTAGONS_HIGH >> (x - 64)) % 2 == 1
+    let word = sel(b < 64, PENTAGONS_LOW, PENTAGONS_HIGH);
+    (word >> (b % 64)) % 2 == 1
 }

@@ -1,14 +1,28 @@
 // Fields of any 64 bits.
 ghost use mathlib.Core.Path.{_≡_};
+ghost use mathlib.Core.Bool.{cond};
 ghost use Prim.Native.Nat.{_≤_};
 ghost use Rattle.index.specs.Layout.{topBit, modeOf, reservedOf, resOf, baseOf, digit, firstOf};
 use crate::Resolution;
 
 // The 45 bits of the digits, and one more.
-const DIGITS_END: u64 = 0x2000_0000_0000;
+pub(crate) const DIGITS_END: u64 = 0x2000_0000_0000;
+
+// One in the place of each digit.
+pub(crate) const ONES: u64 = 0o111111111111111;
+
+// Seven in the place of each digit.
+pub(crate) const SEVENS: u64 = 0o777777777777777;
 
 // The bits above those of the digits.
 const PREFIX_LENGTH: u64 = 19;
+
+// The one or the other, without a branch.
+pub(crate) fn sel(t: bool, a: u64, b: u64) -> u64
+    ensures { λ r. ⌜ r ≡ cond t a b ⌝ }
+{
+    if t { a } else { b }
+}
 
 pub(crate) fn get_top(n: u64) -> u64
     ensures { λ r. ⌜ r ≡ topBit n ⌝ }

@@ -9,6 +9,8 @@ use crate::Cell;
 use crate::Digit;
 use crate::Refusal;
 use crate::Resolution;
+use crate::bits::DIGITS_END;
+use crate::bits::SEVENS;
 use crate::bits::first_axe;
 use crate::bits::get_base_cell;
 use crate::bits::get_direction;
@@ -82,15 +84,14 @@ pub fn place(r: Resolution) -> u64
     1 << (3 * (15 - r.0))
 }
 
+// A pentagon's used digits are 0 and the unused 7.
 pub fn is_pentagon(c: Cell) -> bool
     requires { ⌜ Valid (c .0) ⌝ }
     ensures { λ t. ⌜ t ≡ (isPentagonal (baseOf (c .0)) && eqb (firstOf (c .0) (resOf (c .0))) 0) ⌝ }
 {
     let n = c.0;
-    if crate::base_cell::is_pentagon(BaseCell(get_base_cell(n))) {
-        return first_axe(n) == 0;
-    }
-    false
+    let own = get_resolution(n);
+    in_pentagon(c) & (n % DIGITS_END == SEVENS >> (3 * own.0))
 }
 
 pub fn resolution_number(r: Resolution) -> u64
@@ -111,5 +112,5 @@ pub fn in_pentagon(c: Cell) -> bool
     requires { ⌜ Valid (c .0) ⌝ }
     ensures { λ t. ⌜ t ≡ isPentagonal (baseOf (c .0)) ⌝ }
 {
-    crate::base_cell::is_pentagon(BaseCell(get_base_cell(c.0)))
+    crate::base_cell::is_pentagon(get_base_cell(c.0))
 }

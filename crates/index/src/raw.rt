@@ -1,85 +1,64 @@
 // The check of a raw number: the one way from a number to a cell.
 ghost use mathlib.Core.Path.{_≡_};
-ghost use Prim.Native.Nat.{_≤_};
-ghost use Rattle.index.specs.Layout.{resOf};
-ghost use Rattle.index.specs.Check.{someSeven, someOther, checkOf, told};
-use crate::BaseCell;
+ghost use mathlib.Core.Bool.{cond};
+ghost use Prim.Native.Nat.{_-_, _≤_};
+ghost use lib.Dec.{eqb};
+ghost use Rattle.index.specs.Refusals.{answered, refused};
+ghost use Rattle.index.specs.Check.{checkOf, told};
+ghost use Rattle.index.specs.Words.{Each, mark, ones};
 use crate::Cell;
 use crate::Checked;
 use crate::Refusal;
 use crate::Resolution;
 use crate::base_cell::is_pentagon;
-use crate::bits::first_axe;
+use crate::bits::DIGITS_END;
+use crate::bits::ONES;
 use crate::bits::get_base_cell;
-use crate::bits::get_direction;
 use crate::bits::get_mode;
 use crate::bits::get_reserved;
 use crate::bits::get_resolution;
 use crate::bits::get_top;
+use crate::bits::sel;
 
-fn some_seven(n: u64) -> bool
-    ensures { λ t. ⌜ t ≡ someSeven n ⌝ }
+// One in the place of each digit that is 7.
+fn marks(n: u64) -> u64
+    ensures { λ s. ⌜ Each mark n s ⌝ }
 {
-    let own = get_resolution(n);
-    let k = own.0;
-    let mut i = 0;
-    while i < k {
-        if get_direction(n, Resolution(i + 1)) == 7 {
-            return true;
-        }
-        i += 1;
-    }
-    false
+    n & (n >> 1) & (n >> 2) & ONES
 }
 
-fn some_other(n: u64) -> bool
-    ensures { λ t. ⌜ t ≡ someOther n ⌝ }
+// The marks of a number that has 7 past the resolution r and nowhere else.
+fn unused(r: Resolution) -> u64
+    requires { ⌜ r .0 ≤ 15 ⌝ }
+    ensures { λ u. ⌜ u ≡ ones (15 - r .0) ⌝ }
 {
-    let own = get_resolution(n);
-    let k = own.0;
-    let left = 15 - k;
-    let mut i = 0;
-    while i < left {
-        if get_direction(n, Resolution(k + i + 1)) != 7 {
-            return true;
-        }
-        i += 1;
-    }
-    false
+    ONES >> (3 * r.0)
 }
 
-fn refuse(number: u16) -> Checked
-    ensures { λ r. ⌜ r ≡ Checked.Refused (record { 0 = number }) ⌝ }
+// The refusal's number or 0, from the last test to the first. Of marks that are not above `u` each used digit is below 7, and where they are `u` itself
+// the unused digits are 7; then a first digit 1 has its top bit where the zeros above it are divisible by 3.
+fn refusal_number(n: u64) -> u64
+    ensures { λ k. ⌜ (k ≤ 7) × (checkOf n ≡ cond (eqb k 0) (answered n) (refused k)) ⌝ }
 {
-    Checked::Refused(Refusal(number))
+    let base = get_base_cell(n);
+    let u = unused(get_resolution(n));
+    let s = marks(n);
+    let zeros = u64::leading_zeros(n % DIGITS_END);
+    let k7 = sel(is_pentagon(base) & (zeros % 3 == 0), 7, 0);
+    let k6 = sel(s < u, 6, k7);
+    let k5 = sel(u < s, 5, k6);
+    let k4 = sel(121 < base, 4, k5);
+    let k3 = sel(get_reserved(n) != 0, 3, k4);
+    let k2 = sel(get_mode(n) != 1, 2, k3);
+    sel(get_top(n) == 1, 1, k2)
 }
 
 pub fn check(n: u64) -> Checked
     ensures { λ r. ⌜ told r ≡ checkOf n ⌝ }
 {
-    if get_top(n) == 1 {
-        return refuse(1);
+    let k = refusal_number(n);
+    if k == 0 {
+        return Checked::Valid(Cell(n));
     }
-    if get_mode(n) != 1 {
-        return refuse(2);
-    }
-    if get_reserved(n) != 0 {
-        return refuse(3);
-    }
-    let base = get_base_cell(n);
-    if 121 < base {
-        return refuse(4);
-    }
-    if some_seven(n) {
-        return refuse(5);
-    }
-    if some_other(n) {
-        return refuse(6);
-    }
-    if is_pentagon(BaseCell(base)) {
-        if first_axe(n) == 1 {
-            return refuse(7);
-        }
-    }
-    Checked::Valid(Cell(n))
+    Checked::Refused(Refusal(k as u16))
 }

@@ -1,22 +1,27 @@
 // Turns of cells (index/bits.rs), and the writing of digits.
 ghost use mathlib.Core.Path.{_≡_};
-ghost use mathlib.Core.Bool.{cond};
+ghost use mathlib.Core.Bool.{true};
 ghost use mathlib.Core.List.{map};
-ghost use Prim.Native.Nat.{_≤_, _<_};
+ghost use Prim.Native.Nat.{ℕ, _^_, _≤_, _<_};
 ghost use Rattle.plane.specs.Directions.{turns};
 ghost use Rattle.plane.specs.Strings.{Digits};
-ghost use Rattle.index.specs.Layout.{Valid, resOf};
+ghost use Rattle.index.specs.Layout.{Valid, resOf, digit};
 ghost use Rattle.index.specs.View.{used};
 ghost use Rattle.index.specs.Written.{Written, WithDigits};
 ghost use Rattle.index.specs.Turns.{turnedBy, pentagonTurned};
+ghost use Rattle.index.specs.Words.{Each, down, up, flip};
 use crate::Cell;
 use crate::Digit;
 use crate::Resolution;
+use crate::bits::DIGITS_END;
+use crate::bits::ONES;
 use crate::bits::first_axe;
 use crate::bits::get_direction;
-use crate::bits::get_resolution;
+use crate::bits::sel;
 use crate::inside::place;
-use plane::direction;
+
+// The two low bits of each digit.
+const PAIRS: u64 = 0o333333333333333;
 
 // The number with d as its digit of resolution r.
 pub fn set_direction(n: u64, r: Resolution, d: Digit) -> u64
@@ -29,56 +34,62 @@ pub fn set_direction(n: u64, r: Resolution, d: Digit) -> u64
     n - old * u + new * u
 }
 
-fn turned_digit(d: u64, ccw: bool, count: u8) -> Digit
-    requires { ⌜ d < 7 ⌝ }
-    ensures { λ r. ⌜ (r .0 ≡ turns ccw count d) × (r .0 ≤ 6) ⌝ }
+// Each digit's bits moved round by one place, down.
+fn bits_down(x: u64) -> u64
+    ensures { λ y. ⌜ Each down x y ⌝ }
 {
-    let turned = direction::rotate60(direction::new_unchecked(d as u8), ccw, count);
-    Digit(direction::value(turned) as u64)
+    ((x >> 1) & PAIRS) | ((x & ONES) * 4)
+}
+
+// Each digit's bits moved round by one place, up.
+fn bits_up(x: u64) -> u64
+    ensures { λ y. ⌜ Each up x y ⌝ }
+{
+    ((x & PAIRS) * 2) | ((x >> 2) & ONES)
+}
+
+// Seven in the place of each digit whose bits differ.
+fn flips(x: u64) -> u64
+    ensures { λ y. ⌜ Each flip x y ⌝ }
+{
+    (((x ^ (x >> 1)) | (x ^ (x >> 2))) & ONES) * 7
+}
+
+// Fifteen digits turned counter-clockwise. Of the bits 4i + 2j + k two turns are a move down, four a move up, and three change each bit.
+fn turn_word(x: u64, count: u64) -> u64
+    requires { ⌜ (x < 2 ^ 45) × (count ≤ 6) ⌝ }
+    ensures { λ y. ⌜ Each (turns true count) x y ⌝ }
+{
+    let third = count % 3;
+    let moved = sel(third == 1, bits_up(x), bits_down(x));
+    let even = sel(third == 0, x, moved);
+    even ^ sel(count % 2 == 1, flips(x), 0)
 }
 
 // A number with each used digit turned; under a pentagon base cell it need be no cell, before or after.
 pub fn turn_digits(n: u64, ccw: bool, count: u8) -> u64
-    requires { ⌜ Digits (used n (resOf n)) ⌝ }
+    requires { ⌜ Digits (used n (resOf n)) × ((s : ℕ) → resOf n < s → s ≤ 15 → digit n s ≡ 7) × (count ≤ 5) ⌝ }
     ensures { λ y. ⌜ WithDigits n (map (turns ccw count) (used n (resOf n))) y ⌝ }
 {
-    let own = get_resolution(n);
-    let k = own.0;
-    let mut y = n;
-    let mut i = 0;
-    while i < k {
-        let r = Resolution(i + 1);
-        let d = get_direction(y, r);
-        let e = turned_digit(d, ccw, count);
-        y = set_direction(y, r, e);
-        i += 1;
-    }
-    y
+    let k = count as u64;
+    let x = n % DIGITS_END;
+    n - x + turn_word(x, sel(ccw, k, 6 - k))
 }
 
 // A cell turned by a count: a raw number.
 pub fn rotate60(c: Cell, ccw: bool, count: u8) -> u64
-    requires { ⌜ Valid (c .0) ⌝ }
+    requires { ⌜ Valid (c .0) × (count ≤ 5) ⌝ }
     ensures { λ y. ⌜ y ≡ turnedBy ccw count (c .0) ⌝ }
 {
     turn_digits(c.0, ccw, count)
 }
 
-// The direction that one turn takes to 1.
-fn before_one(ccw: bool) -> u64
-    ensures { λ d. ⌜ d ≡ cond ccw 3 5 ⌝ }
-{
-    if ccw { 3 } else { 5 }
-}
-
-// The pentagon turn.
+// The pentagon turn: twice where one turn takes the first digit that is not 0 to 1.
 pub fn pentagon_rotate60(c: Cell, ccw: bool) -> Cell
     requires { ⌜ Valid (c .0) ⌝ }
     ensures { λ y. ⌜ y .0 ≡ pentagonTurned ccw (c .0) ⌝ }
 {
-    let first = first_axe(c.0);
-    if first == before_one(ccw) {
-        return Cell(rotate60(c, ccw, 2));
-    }
-    Cell(rotate60(c, ccw, 1))
+    let before_one = sel(ccw, 3, 5);
+    let count = sel(first_axe(c.0) == before_one, 2, 1);
+    Cell(rotate60(c, ccw, count as u8))
 }

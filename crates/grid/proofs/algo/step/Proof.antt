@@ -4,18 +4,18 @@ use borrow.Author.Tests.{not-false}
 use mathlib.Core.Path.{_≡_, sym, ap, _∙_, subst}
 use mathlib.Core.Bool.{Bool, true, false, not, true≢false}
 use mathlib.Core.List.{map}
-use Prim.Native.Nat.{ℕ, _^_, _<_}
+use Prim.Native.Nat.{ℕ, _^_, _≤_, _<_}
 use native.Mathlib.Omega.{arith}
 use Rattle.plane.specs.Directions.{turns}
 use Rattle.plane.specs.Strings.{Digits}
-use Rattle.index.specs.Layout.{resOf, baseOf, firstOf, isPentagonal, Valid}
+use Rattle.index.specs.Layout.{resOf, baseOf, digit, firstOf, isPentagonal, Valid}
 use Rattle.index.specs.View.{used, pack, first}
 use Rattle.index.specs.Refusals.{answered, refused}
 use Rattle.index.specs.Written.{WithDigits}
 use Rattle.index.proofs.View.{first-used, pack-valid}
 use Rattle.grid.specs.Walks.{walkedOf, carryOf}
 use Rattle.grid.specs.Steps.{inside, leaves, stepOf}
-use Rattle.grid.proofs.Steps.{olds, news, leaving, staying, refusing, turning-ccw, turning-cw, fit-news, fit-turned, news-digits, walked-used, walked-first, walked-turned}
+use Rattle.grid.proofs.Steps.{olds, news, leaving, staying, refusing, turning-ccw, turning-cw, fit-news, fit-turned, news-digits, walked-used, walked-rest, walked-first, walked-turned}
 use Rattle.grid.proofs.algo.step.Statement.{statement}
 use Rattle.grid.proofs.algo.step.Tie as tie
 
@@ -27,6 +27,10 @@ record Base (n way y e : ℕ) : Type 0 where
   number : y ≡ walkedOf n way
   carry : e ≡ carryOf n way
 
+-- what may be turned
+abbrev Turnable : ℕ → Type 0
+Turnable x = Digits (used x (resOf x)) × ((s : ℕ) → resOf x < s → s ≤ 15 → digit x s ≡ 7) × (1 ≤ 5)
+
 module _ (n way y e : ℕ) (b : Base n way y e) where
   left : (e ≡ 0 → ⊥) → answered (leaves e) ≡ stepOf n way
   left f = ap (λ (x : ℕ). answered (leaves x)) (b .carry) ∙ sym (leaving n way (λ q. f (b .carry ∙ q)))
@@ -34,8 +38,9 @@ module _ (n way y e : ℕ) (b : Base n way y e) where
   new-first : (g : ℕ) → g ≡ firstOf y (resOf y) → g ≡ first (news n way)
   new-first g eg = eg ∙ ap (λ (x : ℕ). firstOf x (resOf x)) (b .number) ∙ walked-first n way (b .cell) (b .small)
 
-  digits : Digits (used y (resOf y))
-  digits = subst Digits (sym (ap (λ (x : ℕ). used x (resOf x)) (b .number) ∙ walked-used n way (b .cell) (b .small))) (news-digits n way (b .cell) (b .small))
+  turnable : Turnable y
+  turnable =
+      subst Turnable (sym (b .number)) (subst Digits (sym (walked-used n way (b .cell) (b .small))) (news-digits n way (b .cell) (b .small)), walked-rest n way (b .cell) (b .small), omega arith)
 
 -- where the answer is the walk's number
 record Plain (n way y : ℕ) : Type 0 where
@@ -157,11 +162,8 @@ first-direction-requires-2 c κs = search needs
 returns-4 : tie.Need-returns-4
 returns-4 c = refusal _ _ _ _ (reached (c .before)) (c .if4 .taken)
 
-walk-digits : (c : tie.After-walk) → Digits (used (c .walk .result .number) (resOf (c .walk .result .number)))
-walk-digits c = digits _ _ _ _ (base c)
-
 turn-digits-requires : tie.Need-turn-digits-requires
-turn-digits-requires c κs = walk-digits (c .before .before .before .before .before .before .before .before .before .before .before)
+turn-digits-requires c κs = turnable _ _ _ _ (base (c .before .before .before .before .before .before .before .before .before .before .before))
 
 cell-requires-3 : tie.Need-cell-requires-3
 cell-requires-3 c κs = valid _ _ _ _ (reached (c .before .before .before)) true _ (omega arith) (c .turn-digits .ensures)
@@ -172,7 +174,7 @@ returns-5 c =
     ccw _ _ _ _ (reached (t .before .before .before)) _ _ (omega arith) (t .turn-digits .ensures) (c .cell3 .ensures) (t .before .if5 .taken)
 
 turn-digits-requires-2 : tie.Need-turn-digits-requires-2
-turn-digits-requires-2 c κs = walk-digits (c .before .before .before .before .before .before .before .before .before .before .before)
+turn-digits-requires-2 c κs = turnable _ _ _ _ (base (c .before .before .before .before .before .before .before .before .before .before .before))
 
 cell-requires-4 : tie.Need-cell-requires-4
 cell-requires-4 c κs = valid _ _ _ _ (reached (c .before .before .before)) false _ (omega arith) (c .turn-digits2 .ensures)

@@ -48,7 +48,7 @@ returns-2 c =
     ap refused (c .refusal2 .ensures) ∙ sym (past-cell (s .raw) (countRule (s .count) ∷ []) _ (cell d .1) ∙ hit _ _ _ _ (lt-ltb _ _ (c .before .if1 .taken)))
 
 rotate60-requires : tie.Need-rotate60-requires
-rotate60-requires c κs = let v = cell (c .before) in subst Valid (sym (v .0)) (v .1)
+rotate60-requires c κs = let v = cell (c .before) in (subst Valid (sym (v .0)) (v .1), c .if1 .left)
 
 returns-3 : tie.Need-returns-3
 returns-3 c =

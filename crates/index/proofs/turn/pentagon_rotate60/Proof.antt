@@ -1,9 +1,10 @@
 -- `index::turn::pentagon_rotate60` meets its contract. Assumes nothing.
 use borrow.Author.Needs.{needs}
-use mathlib.Core.Path.{_≡_, sym, ap, _∙_}
-use mathlib.Core.Bool.{Bool, cond}
-use Prim.Native.Nat.{ℕ}
-use borrow.Author.Tests.{eq-eqb, ne-eqb}
+use mathlib.Core.Path.{_≡_, _∙_}
+use mathlib.Core.Bool.{Bool, true, false, cond}
+use Prim.Native.Nat.{ℕ, _≤_}
+use native.Mathlib.Omega.{arith}
+use lib.Dec.{eqb}
 use Rattle.index.specs.Layout.{resOf, firstOf}
 use Rattle.index.specs.Turns.{turnedBy, pentagonTurned}
 use Rattle.index.proofs.View.{first-used}
@@ -11,37 +12,38 @@ use Rattle.index.proofs.turn.pentagon_rotate60.Statement.{statement}
 use Rattle.index.proofs.turn.pentagon_rotate60.Tie as tie
 
 -- in the words of the calls
-module _ (o : Bool) (n f t y : ℕ) (ef : f ≡ firstOf n (resOf n)) (et : t ≡ cond o 3 5) where
-  twice : f ≡ t → y ≡ turnedBy o 2 n → y ≡ pentagonTurned o n
-  unfolding pentagonTurned
-  twice e ey = ey ∙ sym (ap (λ (b : Bool). turnedBy o (cond b 2 1) n) (eq-eqb _ (cond o 3 5) (first-used n (resOf n) ∙ sym ef ∙ e ∙ et)))
+law : (o : Bool) (n b f k y : ℕ) → b ≡ cond o 3 5 → f ≡ firstOf n (resOf n) → k ≡ cond (eqb f b) 2 1 → y ≡ turnedBy o k n → y ≡ pentagonTurned o n
+unfolding pentagonTurned
+law o n b f k y eb ef ek ey = ey ∙ rw (ek, ef, eb, first-used n (resOf n))
 
-  once : (f ≡ t → ⊥) → y ≡ turnedBy o 1 n → y ≡ pentagonTurned o n
-  unfolding pentagonTurned
-  once e ey = ey ∙ sym (ap (λ (b : Bool). turnedBy o (cond b 2 1) n) (ne-eqb _ (cond o 3 5) (λ q. e (ef ∙ sym (first-used n (resOf n)) ∙ q ∙ sym et))))
+count-le : (t : Bool) (k : ℕ) → k ≡ cond t 2 1 → k ≤ 2
+count-le true k e = omega arith
+count-le false k e = omega arith
+
+sel-requires : tie.Need-sel-requires
+sel-requires c κs = search needs
 
 first-axe-requires : tie.Need-first-axe-requires
 first-axe-requires c κs = search needs
 
-before-one-requires : tie.Need-before-one-requires
-before-one-requires c κs = search needs
+sel-requires-2 : tie.Need-sel-requires-2
+sel-requires-2 c κs = search needs
+
+count : (c : tie.After-sel2) → c .sel2 .result ≤ 2
+count c = count-le (eqb (c .before .first-axe .result) (c .before .before .sel .result)) _ (c .sel2 .ensures)
+
+cast-rotate60 : tie.Need-cast-rotate60
+cast-rotate60 c = let h = count c in omega arith
 
 rotate60-requires : tie.Need-rotate60-requires
-rotate60-requires c κs = search needs
+rotate60-requires c κs = let h = count c in (c .before .before .before .pre, omega arith)
 
 returns : tie.Need-returns
 returns c =
-    let s = c .before .before .before in
-    twice (s .before .args .ccw) (s .before .args .c .0) _ _ _ (s .first-axe .ensures) (c .before .before .before-one .ensures) (c .before .if1 .taken) (c .rotate60 .ensures)
-
-rotate60-requires-2 : tie.Need-rotate60-requires-2
-rotate60-requires-2 c κs = search needs
-
-returns-2 : tie.Need-returns-2
-returns-2 c =
-    let s = c .before .before .before in
-    once (s .before .args .ccw) (s .before .args .c .0) _ _ _ (s .first-axe .ensures) (c .before .before .before-one .ensures) (c .before .if1 .left) (c .rotate602 .ensures)
+    let f = c .before .before in
+    let s = f .before .before in
+    law (s .args .ccw) (s .args .c .0) _ _ _ _ (f .before .sel .ensures) (f .first-axe .ensures) (c .before .sel2 .ensures) (c .rotate60 .ensures)
 
 pub pentagon-rotate60-spec : {M : Type 1} → statement M
 pentagon-rotate60-spec =
-    tie.close (tie.spec first-axe-requires before-one-requires rotate60-requires returns rotate60-requires-2 returns-2)
+    tie.close (tie.spec sel-requires first-axe-requires sel-requires-2 cast-rotate60 rotate60-requires returns)

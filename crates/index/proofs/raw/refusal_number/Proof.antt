@@ -1,0 +1,109 @@
+-- `index::raw::refusal_number` meets its contract: seven tests, each before those after it. Assumes nothing.
+use borrow.Author.Needs.{needs}
+use mathlib.Core.Path.{_≡_, ap, _∙_}
+use mathlib.Core.Bool.{Bool, false, not, _&&_}
+use Prim.Native.Nat.{ℕ, _-_, _%_, _^_}
+use native.Mathlib.Omega.{arith}
+use lib.Count.{leadingZeros}
+use lib.Dec.{eqb, ltb}
+use Rattle.index.specs.Layout.{baseOf, resOf, firstOf, isPentagonal}
+use Rattle.index.specs.Check.{someOther}
+use Rattle.index.specs.Words.{ones}
+use Rattle.index.proofs.Rules.{numbered, none-answered}
+use Rattle.index.proofs.First.{thirds}
+use Rattle.index.proofs.Validity.{sevens-past}
+use Rattle.index.proofs.Flags.{over, under}
+use Rattle.index.proofs.raw.refusal_number.Statement.{statement}
+use Rattle.index.proofs.raw.refusal_number.Tie as tie
+
+get-base-cell-requires : tie.Need-get-base-cell-requires
+get-base-cell-requires c κs = search needs
+
+get-resolution-requires : tie.Need-get-resolution-requires
+get-resolution-requires c κs = search needs
+
+unused-requires : tie.Need-unused-requires
+unused-requires c κs = search needs
+
+marks-requires : tie.Need-marks-requires
+marks-requires c κs = search needs
+
+is-pentagon-requires : tie.Need-is-pentagon-requires
+is-pentagon-requires c κs = search needs
+
+sel-requires : tie.Need-sel-requires
+sel-requires c κs = search needs
+
+sel-requires-2 : tie.Need-sel-requires-2
+sel-requires-2 c κs = search needs
+
+sel-requires-3 : tie.Need-sel-requires-3
+sel-requires-3 c κs = search needs
+
+sel-requires-4 : tie.Need-sel-requires-4
+sel-requires-4 c κs = search needs
+
+get-reserved-requires : tie.Need-get-reserved-requires
+get-reserved-requires c κs = search needs
+
+sel-requires-5 : tie.Need-sel-requires-5
+sel-requires-5 c κs = search needs
+
+get-mode-requires : tie.Need-get-mode-requires
+get-mode-requires c κs = search needs
+
+sel-requires-6 : tie.Need-sel-requires-6
+sel-requires-6 c κs = search needs
+
+get-top-requires : tie.Need-get-top-requires
+get-top-requires c κs = search needs
+
+sel-requires-7 : tie.Need-sel-requires-7
+sel-requires-7 c κs = search needs
+
+-- the last test, where the unused digits are 7
+last : (n b : ℕ) (p : Bool) → b ≡ baseOf n → p ≡ isPentagonal b → someOther n ≡ false → p && eqb (leadingZeros 64 (n % 2 ^ 45) % 3) 0 ≡ isPentagonal (baseOf n) && eqb (firstOf n (resOf n)) 1
+last n b p eb ep h = rw (ep, eb, thirds n (resOf n) (omega arith) (sevens-past n h))
+
+returns : tie.Need-returns
+returns c =
+    let k2 = c .before .before in
+    let k3 = k2 .before .before in
+    let k4 = k3 .before .before in
+    let k5 = k4 .before in
+    let k6 = k5 .before in
+    let k7 = k6 .before in
+    let p = k7 .before in
+    let s = p .before in
+    let u = s .before in
+    let b = u .before .before in
+    let n : ℕ = b .before .args .n in
+    let eu = u .unused .ensures ∙ ap (λ (r : ℕ). ones (15 - r)) (u .before .get-resolution .ensures) in
+    numbered 7 1 _ _ _ _ _ _ (omega arith) (omega arith) (c .sel7 .ensures) (ap (λ (x : ℕ). eqb x 1) (c .before .get-top .ensures)) (λ _.
+    numbered 7 2 _ _ _ _ _ _ (omega arith) (omega arith) (k2 .sel6 .ensures) (ap (λ (x : ℕ). not (eqb x 1)) (k2 .before .get-mode .ensures)) (λ _.
+    numbered 7 3 _ _ _ _ _ _ (omega arith) (omega arith) (k3 .sel5 .ensures) (ap (λ (x : ℕ). not (eqb x 0)) (k3 .before .get-reserved .ensures)) (λ _.
+    numbered 7 4 _ _ _ _ _ _ (omega arith) (omega arith) (k4 .sel4 .ensures) (ap (ltb 121) (b .get-base-cell .ensures)) (λ _.
+    numbered 7 5 _ _ _ _ _ _ (omega arith) (omega arith) (k5 .sel3 .ensures) (over n _ (s .marks .ensures) _ eu) (λ h.
+    numbered 7 6 _ _ _ _ _ _ (omega arith) (omega arith) (k6 .sel2 .ensures) (under n _ (s .marks .ensures) _ eu h) (λ g.
+    numbered 7 7 _ _ _ _ _ _ (omega arith) (omega arith) (k7 .sel .ensures) (last n _ _ (b .get-base-cell .ensures) (p .is-pentagon .ensures) g) (λ _. (omega arith, none-answered n))))))))
+
+pub refusal-number-spec : {M : Type 1} → statement M
+refusal-number-spec =
+    tie.close
+    (tie.spec
+    get-base-cell-requires
+    get-resolution-requires
+    unused-requires
+    marks-requires
+    is-pentagon-requires
+    sel-requires
+    sel-requires-2
+    sel-requires-3
+    sel-requires-4
+    get-reserved-requires
+    sel-requires-5
+    get-mode-requires
+    sel-requires-6
+    get-top-requires
+    sel-requires-7
+    returns)

@@ -1,0 +1,15 @@
+-- `index::turn::bits_down` meets its contract. Assumes nothing.
+use native.Mathlib.Omega.{arith}
+use lib.Bits.{and-le-r}
+use Rattle.index.proofs.Wordwise.{moved-down}
+use Rattle.index.proofs.turn.bits_down.Statement.{statement}
+use Rattle.index.proofs.turn.bits_down.Tie as tie
+
+mul-result : tie.Need-mul-result
+mul-result c = omega (arith, and-le-r (c .args .x) 5026338869833)
+
+returns : tie.Need-returns
+returns c = moved-down (c .args .x)
+
+pub bits-down-spec : {M : Type 1} → statement M
+bits-down-spec = tie.close (tie.spec mul-result returns)

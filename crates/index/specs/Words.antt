@@ -1,0 +1,31 @@
+-- What the contracts of functions inside the crate cite, no part of document 01: a word of fifteen digits that are changed all at once.
+use mathlib.Core.Path.{_≡_}
+use mathlib.Core.Bool.{cond, _||_}
+use Prim.Native.Nat.{ℕ, zero, suc, _+_, _*_, _/_, _%_, _^_, _≤_, _<_}
+use lib.Dec.{eqb}
+use Rattle.index.specs.Layout.{digit}
+
+-- y has fifteen digits, each of them f of the digit of x in its place
+pub record Each (f : ℕ → ℕ) (x y : ℕ) : Type 0 where
+  pub short : y < 2 ^ 45
+  pub each : (r : ℕ) → 1 ≤ r → r ≤ 15 → digit y r ≡ f (digit x r)
+
+-- 1 for the digit 7
+abbrev pub mark : ℕ → ℕ
+mark d = cond (eqb d 7) 1 0
+
+-- k digits that are 1
+unfoldable pub ones : ℕ → ℕ
+ones zero = 0
+ones (suc k) = ones k * 8 + 1
+
+-- the three bits of a digit moved round by one place, down and up
+abbrev pub down : ℕ → ℕ
+down d = d / 2 + d % 2 * 4
+
+abbrev pub up : ℕ → ℕ
+up d = d % 4 * 2 + d / 4
+
+-- what changes each bit of a digit that is neither 0 nor 7
+abbrev pub flip : ℕ → ℕ
+flip d = cond (eqb d 0 || eqb d 7) 0 7
