@@ -17,3 +17,7 @@ pub mod Stands
 pub mod Judging
 pub mod Calls
 pub mod Reach
+pub mod Copies
+pub mod Strides
+pub mod Levels
+pub mod Filled

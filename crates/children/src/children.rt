@@ -11,6 +11,8 @@ ghost use Rattle.children.specs.Descendants.{countOf};
 ghost use Rattle.children.specs.Positions.{childAt, listing};
 ghost use Rattle.children.specs.Skips.{sameZ, Inner, Following};
 ghost use Rattle.children.specs.Cursors.{cursorAt, nextOf};
+use crate::blocks::fill_hexagon;
+use crate::blocks::fill_pentagon;
 use crate::count::children_count;
 use crate::legal::is_legal;
 use index::Cell;
@@ -105,20 +107,14 @@ pub fn list(c: Cell, t: Resolution, buf: &mut [u64])
     requires { ⌜ Valid (c .0) × (resOf (c .0) ≤ t .0) × (t .0 ≤ 15) × (countOf (c .0) (t .0) ≤ length (now buf)) ⌝ }
     ensures { λ _. ⌜ now (buf .exit) ≡ listing (c .0) (t .0) ++ drop (countOf (c .0) (t .0)) (now (buf .entry)) ⌝ }
 {
-    let own = resolution_number(resolution_of(c));
-    let target = resolution_number(t);
-    let last = (children_count(c, t) - 1) as usize;
-    let mut number = get_starting_state(c, t);
-    let mut skip = skip_count(is_pentagon(c), target);
-    let mut i = 0;
-    while i < last {
-        buf[i] = number;
-        let s = advance(number, skip, own, target);
-        number = s.number;
-        skip = s.skip;
-        i += 1;
+    let first = get_starting_state(c, t);
+    let unit = place(t);
+    let m = resolution_number(t) - resolution_number(resolution_of(c));
+    if is_pentagon(c) {
+        fill_pentagon(first, unit, m, buf);
+    } else {
+        fill_hexagon(first, unit, m, buf);
     }
-    buf[last] = number;
 }
 
 pub struct Cursor {

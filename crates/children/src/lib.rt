@@ -1,4 +1,5 @@
 // The descendants of a cell (index/iterator/children.rs): counts, listings, the cursor, and the positions that this port adds.
+mod blocks;
 mod children;
 mod count;
 mod legal;
