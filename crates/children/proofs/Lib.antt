@@ -17,3 +17,6 @@ pub mod Stands
 pub mod Judging
 pub mod Calls
 pub mod Reach
+pub mod Bases
+pub mod Shifts
+pub mod Ranking

@@ -9,7 +9,7 @@ use index::inside::is_pentagon;
 use index::inside::resolution_number;
 use index::inside::resolution_of;
 
-fn sevens(m: u64) -> u64
+pub(crate) fn sevens(m: u64) -> u64
     requires { ⌜ m ≤ 15 ⌝ }
     ensures { λ r. ⌜ r ≡ 7 ^ m ⌝ }
 {
