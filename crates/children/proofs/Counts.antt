@@ -7,20 +7,28 @@ use native.Mathlib.Omega.{arith}
 use Rattle.children.specs.Descendants.{count}
 use Rattle.children.specs.Positions.{bump}
 
-sevens-six : (m : ℕ) → (k : ℕ) × (7 ^ m ≡ 6 * k + 1)
-sevens-six zero = (0, refl)
-sevens-six (suc m) = let h = sevens-six m in (7 * h .0 + 1, rw (pow-suc 7 m, h .1) (omega arith))
+-- 1 + 7 + .. , m of them
+unfoldable pub ones : ℕ → ℕ
+ones zero = 0
+ones (suc m) = ones m * 7 + 1
 
-fifths : (x k : ℕ) → x ≡ 6 * k + 1 → 1 + 5 * (x - 1) / 6 ≡ 1 + 5 * k
-fifths x k e = omega arith
+pub sevens-six : (m : ℕ) → 7 ^ m ≡ 6 * ones m + 1
+unfolding ones
+sevens-six zero = refl
+sevens-six (suc m) = omega (arith, pow-suc 7 m, sevens-six m)
+
+pub ones-six : (m : ℕ) → (7 ^ m - 1) / 6 ≡ ones m
+ones-six m = rw (sevens-six m) (omega arith)
+
+pub count-ones : (m : ℕ) → count true m ≡ 1 + 5 * ones m
+count-ones m = rw (sevens-six m) (omega arith)
 
 pub sevens-pos : (m : ℕ) → 1 ≤ 7 ^ m
 sevens-pos m = one-le-pow m 7 (omega arith)
 
 pub count-suc : (m : ℕ) → count true (suc m) + 1 ≡ 7 * count true m
-count-suc m =
-    let h = sevens-six m in
-    rw (fifths (7 ^ m) (h .0) (h .1), fifths (7 ^ suc m) (7 * h .0 + 1) (rw (pow-suc 7 m, h .1) (omega arith))) (omega arith)
+unfolding ones
+count-suc m = omega (arith, count-ones m, count-ones (suc m))
 
 pub count-pos : (t : Bool) (m : ℕ) → 1 ≤ count t m
 count-pos true m = omega arith

@@ -64,10 +64,10 @@ module _ (n t : ℕ) (h64 : n < 2 ^ 64) (v : Valid n) (lo : resOf n ≤ t) (hi :
       let e : t ≡ k + (t - k) = omega arith in
       ap (used y) (d .fine ∙ e) ∙ used-seg y k (t - k) ∙ ap (λ (z : List ℕ). seg y k (t - k) ++ z) (digit-used y n k (d .lead))
 
-  -- child at the position of a descendant is that descendant
-  pub complete : (y : ℕ) → Descendant n t y → (positionOf n y < countOf n t) × (childAt n t (positionOf n y) ≡ y)
-  unfolding childAt
-  complete y d =
+  -- they are those of a position
+  pub digits-back : (y : ℕ) → Descendant n t y → let xs = seg y (resOf n) (t - resOf n) in
+      Digits xs × (below (pentagon n) (t - resOf n) (rank (pentagon n) xs) ≡ xs) × (rank (pentagon n) xs < countOf n t)
+  digits-back y d =
       let k : ℕ = resOf n in
       let m : ℕ = t - k in
       let xs : List ℕ = seg y k m in
@@ -78,12 +78,18 @@ module _ (n t : ℕ) (h64 : n < 2 ^ 64) (v : Valid n) (lo : resOf n ≤ t) (hi :
       let a = and-zero (isPentagonal (baseOf n)) (firstOf n k) q in
       o .kept (ap isPentagonal (d .base) ∙ a .0) (ap first e ∙ first-append xs (used n k) ∙ rw (first-used n k, a .1) g) in
       let r = placed (pentagon n) xs s kept in
-      let l = length-seg y k m in
-      let b : below (pentagon n) m (rank (pentagon n) xs) ≡ xs = subst (λ (z : ℕ). below (pentagon n) z (rank (pentagon n) xs) ≡ xs) l (r .0) in
-      rw (d .fine) (
+      let l = length-seg y k m in (
+        s,
+        subst (λ (z : ℕ). below (pentagon n) z (rank (pentagon n) xs) ≡ xs) l (r .0),
         subst (λ (z : ℕ). rank (pentagon n) xs < count (pentagon n) z) l (r .1),
-        rw (b, ← (d .base), ← e) (packed y (d .fits) (d .valid)),
       )
+
+  -- child at the position of a descendant is that descendant
+  pub complete : (y : ℕ) → Descendant n t y → (positionOf n y < countOf n t) × (childAt n t (positionOf n y) ≡ y)
+  unfolding childAt
+  complete y d =
+      let r = digits-back y d in
+      rw (d .fine) (r .2, rw (r .1, ← (d .base), ← (split y d)) (packed y (d .fits) (d .valid)))
 
   -- position of the child at p is p
   pub position-child : (p : ℕ) → p < countOf n t → positionOf n (childAt n t p) ≡ p

@@ -21,3 +21,6 @@ pub mod Copies
 pub mod Strides
 pub mod Levels
 pub mod Filled
+pub mod Bases
+pub mod Shifts
+pub mod Ranking

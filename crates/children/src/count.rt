@@ -9,30 +9,28 @@ use index::inside::is_pentagon;
 use index::inside::resolution_number;
 use index::inside::resolution_of;
 
-const SEVENS: [u64; 16] = [
-    1,
-    7,
-    49,
-    343,
-    2401,
-    16807,
-    117649,
-    823543,
-    5764801,
-    40353607,
-    282475249,
-    1977326743,
-    13841287201,
-    96889010407,
-    678223072849,
-    4747561509943,
-];
-
-fn sevens(m: u64) -> u64
+pub(crate) fn sevens(m: u64) -> u64
     requires { ⌜ m ≤ 15 ⌝ }
     ensures { λ r. ⌜ r ≡ 7 ^ m ⌝ }
 {
-    SEVENS[m as usize]
+    match m {
+        0 => 1,
+        1 => 7,
+        2 => 49,
+        3 => 343,
+        4 => 2401,
+        5 => 16807,
+        6 => 117649,
+        7 => 823543,
+        8 => 5764801,
+        9 => 40353607,
+        10 => 282475249,
+        11 => 1977326743,
+        12 => 13841287201,
+        13 => 96889010407,
+        14 => 678223072849,
+        _ => 4747561509943,
+    }
 }
 
 pub(crate) fn count_down(pentagon: bool, m: u64) -> u64

@@ -1,16 +1,18 @@
 // Child at position, and position of child.
 ghost use mathlib.Core.Path.{_≡_};
-ghost use Prim.Native.Nat.{_+_, _-_, _*_, _^_, _≤_, _<_};
+ghost use mathlib.Core.Bool.{false};
+ghost use Prim.Native.Nat.{ℕ, _+_, _-_, _*_, _^_, _≤_, _<_};
 ghost use Rattle.index.specs.Layout.{Valid, resOf};
 ghost use Rattle.index.specs.View.{octal};
-ghost use Rattle.children.specs.Descendants.{countOf};
-ghost use Rattle.children.specs.Positions.{bump, unbump, below, childAt, rank as rankOf, seg, foundOf, toldFound};
+ghost use Rattle.index.specs.Ancestor.{ancestorOf};
+ghost use Rattle.children.specs.Descendants.{pentagon, countOf};
+ghost use Rattle.children.specs.Positions.{bump, below, childAt, rank as rankOf, seg, foundOf, toldFound};
 use crate::children::get_starting_state;
+use crate::count::sevens;
 use index::Cell;
 use index::Resolution;
 use index::inside::ancestor;
 use index::inside::cell;
-use index::inside::direction;
 use index::inside::is_pentagon;
 use index::inside::number_of;
 use index::inside::place;
@@ -68,33 +70,33 @@ pub fn child_at(c: Cell, t: Resolution, p: u64) -> Cell
     cell(put_digits(start, unit, pent, target - own, p))
 }
 
-// A position that skipped the deleted digit.
-fn unbumped(pent: bool, v: u64) -> u64
-    ensures { λ r. ⌜ r ≡ unbump pent v ⌝ }
+// Sixteen digits with eight as their base, read with seven as the base: pairs of fields are joined, four times.
+fn in_sevens(v: u64) -> u64
+    requires { ⌜ v < 2 ^ 48 ⌝ }
+    ensures { λ r. ⌜ ((p : ℕ) → p < 7 ^ 16 → v ≡ octal (below false 16 p) → r ≡ p) ⌝ }
 {
-    if pent {
-        if v == 0 {
-            return 0;
-        }
-        return v - 1;
-    }
-    v
+    let h1 = (v >> 3) & 0o707070707070707;
+    let v1 = v - h1;
+    let h2 = (v1 >> 6) & 0o77007700770077;
+    let v2 = v1 - 15 * h2;
+    let h3 = (v2 >> 12) & 0o777700007777;
+    let v3 = v2 - 1695 * h3;
+    v3 % 0x100_0000 + 5764801 * (v3 >> 24)
 }
 
-// The position of the digits own + 1 to own + m of n.
+// The position of the digits own + 1 to own + m of n, below a pentagon less what the deleted positions take.
 pub(crate) fn rank_of(pent: bool, n: u64, own: u64, m: u64) -> u64
-    requires { ⌜ own + m ≤ 15 ⌝ }
+    requires { ⌜ Valid n × (own + m ≡ resOf n) × (pent ≡ pentagon (ancestorOf n own)) ⌝ }
     ensures { λ r. ⌜ r ≡ rankOf pent (seg n own m) ⌝ }
 {
-    let mut acc = 0;
-    let mut i = 0;
-    while i < m {
-        let r = own + i + 1;
-        let d = direction(n, resolution(r));
-        acc = unbumped(pent, acc * 7 + d);
-        i += 1;
+    let v = (n >> (3 * (15 - (own + m)))) % place(resolution(15 - m));
+    let p = in_sevens(v);
+    if pent {
+        let z = u64::leading_zeros(v) as u64;
+        let taken = (sevens((66 - z) / 3) - 1) / 6;
+        return p - taken;
     }
-    acc
+    p
 }
 
 // The position of y below c.

@@ -6,6 +6,7 @@ use Rattle.index.specs.Layout.{Valid}
 use Rattle.index.specs.Ancestor.{ancestorOf}
 use Rattle.children.proofs.Ancestors.{owner-valid}
 use Rattle.children.proofs.Judging as judging
+use Rattle.children.proofs.Ranking.{asked}
 use Rattle.children.proofs.legal.is_placed.Statement.{statement}
 use Rattle.children.proofs.legal.is_placed.Tie as tie
 
@@ -36,7 +37,9 @@ count-down-requires : tie.Need-count-down-requires
 count-down-requires c κs = search needs
 
 rank-of-requires : tie.Need-rank-of-requires
-rank-of-requires c κs = search needs
+rank-of-requires c κs =
+    let s = c .before .before .before .before .before .before .before in
+    asked _ _ _ _ _ _ _ _ (s .pre .0) (c .before .before .before .before .before .before .number-of .ensures) (c .before .before .before .resolution .ensures) (omega arith) (c .before .before .before .before .resolution-number .ensures) (c .before .before .before .before .before .resolution-of .ensures) (c .before .before .ancestor .ensures) (c .before .is-pentagon .ensures)
 
 is-counted-requires : tie.Need-is-counted-requires
 is-counted-requires r κs =

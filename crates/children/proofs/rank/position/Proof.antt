@@ -9,6 +9,7 @@ use Rattle.index.specs.Refusals.{answered, refused, judged}
 use Rattle.index.specs.Ancestor.{ancestorOf}
 use Rattle.children.specs.Descendants.{pentagon}
 use Rattle.children.specs.Positions.{rank, seg, foundOf}
+use Rattle.children.proofs.Ranking.{asked}
 use Rattle.children.proofs.rank.position.Statement.{statement}
 use Rattle.children.proofs.rank.position.Tie as tie
 
@@ -74,7 +75,12 @@ number-of-requires-3 : tie.Need-number-of-requires-3
 number-of-requires-3 c κs = search needs
 
 rank-of-requires : tie.Need-rank-of-requires
-rank-of-requires c κs = search needs
+rank-of-requires c′ κs =
+    let c = c′ .before .before in
+    let w = c .before .before .before .before in
+    let b = w .before .before .before in
+    let s = b .before .before in
+    asked _ _ _ _ _ _ (s .args .c .0) _ (s .pre .1) (c′ .number-of3 .ensures) (sym (b .resolution-number .ensures)) (w .if1 .left) (w .before .resolution-number2 .ensures) (w .before .before .resolution-of2 .ensures) (sym (c .if2 .left ∙ c .before .number-of2 .ensures) ∙ c .before .before .number-of .ensures ∙ c .before .before .before .ancestor .ensures) (c′ .before .is-pentagon .ensures)
 
 returns-3 : tie.Need-returns-3
 returns-3 c′ =

@@ -1,86 +1,113 @@
--- `children::rank::rank_of` meets its contract. The loop's invariant: the rank of the digits that were read. Assumes nothing.
+-- `children::rank::rank_of` meets its contract, by the laws of `Ranking`. Assumes nothing.
 use borrow.Author.Needs.{needs}
-use mathlib.Core.Path.{_≡_, refl, _∙_}
-use mathlib.Core.Bool.{Bool, true, false}
-use Prim.Native.Nat.{ℕ, zero, suc, _+_, _-_, _*_, _^_, _≤_, _<_}
-use native.Mathlib.Nat.{pow-suc, pow-le-pow-right}
-use native.Mathlib.Numerals.{add-one}
+use mathlib.Core.Path.{_≡_, refl}
+use Prim.Native.Nat.{ℕ, _+_, _-_, _*_, _/_, _%_, _^_, _≤_, _<_}
 use native.Mathlib.Omega.{arith}
-use Rattle.index.specs.Layout.{digit}
-use Rattle.children.specs.Positions.{unbump, rank, seg}
+use lib.Count.{leadingZeros}
+use Rattle.index.proofs.Runs.{eights-pos}
+use Rattle.children.specs.Positions.{rank, seg}
+use Rattle.children.proofs.Counts.{sevens-pos}
+use Rattle.children.proofs.Ranking as ranking
 use Rattle.children.proofs.rank.rank_of.Statement.{statement}
 use Rattle.children.proofs.rank.rank_of.Tie as tie
 
--- the next digit: in the words of the two calls
-more : (t : Bool) (n k i a d e r : ℕ) → a ≡ rank t (seg n k i) → e ≡ k + i + 1 → d ≡ digit n e → r ≡ unbump t (a * 7 + d) → r ≡ rank t (seg n k (i + 1))
-unfolding rank seg
-more t n k i a d e r ea ee ed er = rw (add-one i) (er ∙ rw (ea, ed, ee))
+add-v : tie.Need-add-v
+add-v c = search needs
 
-unbump-le : (t : Bool) (v : ℕ) → unbump t v ≤ v
-unbump-le true zero = omega arith
-unbump-le true (suc v) = omega arith
-unbump-le false v = omega arith
+sub-v : tie.Need-sub-v
+sub-v c = search needs
 
--- a bound that needs only that a digit is below 8
-next-below : (t : Bool) (i a d r : ℕ) → a < 8 ^ i → d < 8 → r ≡ unbump t (a * 7 + d) → r < 8 ^ (i + 1)
-next-below t i a d r h l e = rw (add-one i) (omega (arith, pow-suc 8 i, unbump-le t (a * 7 + d)))
+mul-v : tie.Need-mul-v
+mul-v c = search needs
 
-small : (i a : ℕ) → i ≤ 15 → a < 8 ^ i → a < 8 ^ 15
-small i a h l = let p : 8 ^ i ≤ 8 ^ 15 = pow-le-pow-right (omega arith) h in omega arith
+shr-v : tie.Need-shr-v
+shr-v c = search needs
 
-abbrev Inv-loop : tie.InvT-loop
-Inv-loop pent n own m acc₀ i₀ acc i = (own + m ≤ 15) × (i ≤ m) × (acc ≡ rank pent (seg n own i)) × (acc < 8 ^ i)
+sub-resolution : tie.Need-sub-resolution
+sub-resolution c = search needs
 
-abbrev μ-loop : tie.MeasureT-loop
-μ-loop pent n own m acc₀ i₀ acc i = m - i
-
-loop-holds : tie.Need-loop-holds Inv-loop μ-loop
-unfolding rank seg
-loop-holds c = (omega arith, omega arith, refl, omega arith)
-
-add-r : tie.Need-add-r Inv-loop μ-loop
-add-r c = search needs
-
-add-r-2 : tie.Need-add-r-2 Inv-loop μ-loop
-add-r-2 c = search needs
-
-resolution-requires : tie.Need-resolution-requires Inv-loop μ-loop
+resolution-requires : tie.Need-resolution-requires
 resolution-requires c κs = search needs
 
-direction-requires : tie.Need-direction-requires Inv-loop μ-loop
-direction-requires c κs = search needs
+place-requires : tie.Need-place-requires
+place-requires c κs = search needs
 
-mul-unbumped : tie.Need-mul-unbumped Inv-loop μ-loop
-mul-unbumped c = let l = c .before .before .before .loop in omega (arith, small (l .i) (l .acc) (omega arith) (l .inv .3))
+rem-v : tie.Need-rem-v
+rem-v c = omega (arith, c .place .ensures, eights-pos (15 - c .before .resolution .result .0))
 
-add-unbumped : tie.Need-add-unbumped Inv-loop μ-loop
-add-unbumped c = let l = c .before .before .before .loop in omega (arith, small (l .i) (l .acc) (omega arith) (l .inv .3), c .direction .ensures)
+-- the word of the digits
+cut : (c : tie.After-place) → ℕ
+cut c = let a = c .before .before .args in a .n / 2 ^ (3 * (15 - (a .own + a .m))) % c .place .result
 
-unbumped-requires : tie.Need-unbumped-requires Inv-loop μ-loop
-unbumped-requires c κs = search needs
+short : (c : tie.After-place) → cut c < 2 ^ 45
+unfolding cut
+short c = let s = c .before .before in ranking.short _ _ _ _ _ _ _ (omega arith) (s .pre .0) (s .pre .1) (s .pre .2) (c .before .resolution .ensures) (c .place .ensures) refl
 
-add-i : tie.Need-add-i Inv-loop μ-loop
-add-i c = search needs
+in-sevens-requires : tie.Need-in-sevens-requires
+unfolding cut
+in-sevens-requires c κs = omega (arith, short c)
 
-loop-less : tie.Need-loop-less Inv-loop μ-loop
-loop-less c = search needs
+zeros : (c : tie.Then1) → (leadingZeros 64 (cut (c .before .before)) ≤ 64) × ((66 - leadingZeros 64 (cut (c .before .before))) / 3 ≤ 15)
+unfolding cut
+zeros c′ =
+    let c = c′ .before .before in
+    let s = c .before .before in
+    ranking.zeros-few _ _ _ _ _ _ _ (omega arith) (s .pre .0) (s .pre .1) (s .pre .2) (c .before .resolution .ensures) (c .place .ensures) refl _ (c′ .before .in-sevens .ensures) (c′ .if1 .taken)
 
-loop-again : tie.Need-loop-again Inv-loop μ-loop
-loop-again c =
-    let l = c .before .before .before .before .loop in
-    let d = c .before .direction in (
-      l .inv .0,
-      omega arith,
-      more _ _ _ (l .i) (l .acc) _ _ _ (l .inv .2) (c .before .before .resolution .ensures) (d .ensures) (c .unbumped .ensures),
-      next-below (c .before .before .before .before .before .args .pent) (l .i) (l .acc) (d .result) _ (l .inv .3) (omega (arith, d .ensures)) (c .unbumped .ensures),
-    )
+cast-z : tie.Need-cast-z
+unfolding cut
+cast-z c = omega (arith, zeros c)
 
-returns : tie.Need-returns Inv-loop μ-loop
-returns c =
-    let e : c .before .loop .i ≡ c .before .before .args .m = omega arith in
-    rw e at (c .before .loop .inv .2)
+sub-sevens : tie.Need-sub-sevens
+unfolding cut
+sub-sevens c = omega (arith, zeros c)
+
+sevens-requires : tie.Need-sevens-requires
+unfolding cut
+sevens-requires c κs = zeros c .1
+
+sub-taken : tie.Need-sub-taken
+unfolding cut
+sub-taken c = omega (arith, c .sevens .ensures, sevens-pos ((66 - leadingZeros 64 (cut (c .before .before .before))) / 3))
+
+less : (c : tie.After-sevens) → let p = c .before .before .in-sevens .result in let a = c .before .before .before .before .before .args in
+    ((c .sevens .result - 1) / 6 ≤ p) × (p - (c .sevens .result - 1) / 6 ≡ rank (a .pent) (seg (a .n) (a .own) (a .m)))
+unfolding cut
+less c″ =
+    let c′ = c″ .before in
+    let c = c′ .before .before in
+    let s = c .before .before in
+    ranking.below-pentagon _ _ _ _ _ _ _ (omega arith) (s .pre .0) (s .pre .1) (s .pre .2) (c .before .resolution .ensures) (c .place .ensures) refl _ (c′ .before .in-sevens .ensures) (c′ .if1 .taken) _ (c″ .sevens .ensures)
+
+sub-result : tie.Need-sub-result
+sub-result c = omega (arith, less c)
+
+returns : tie.Need-returns
+returns c = omega (arith, less c)
+
+returns-2 : tie.Need-returns-2
+returns-2 c′ =
+    let c = c′ .before .before in
+    let s = c .before .before in
+    ranking.below-hexagon _ _ _ _ _ _ _ (omega arith) (s .pre .0) (s .pre .1) (s .pre .2) (c .before .resolution .ensures) (c .place .ensures) refl _ (c′ .before .in-sevens .ensures) (c′ .if1 .left)
 
 pub rank-of-spec : {M : Type 1} → statement M
 rank-of-spec =
     tie.close
-    (tie.spec Inv-loop μ-loop loop-holds add-r add-r-2 resolution-requires direction-requires mul-unbumped add-unbumped unbumped-requires add-i loop-less loop-again returns)
+    (tie.spec
+    add-v
+    sub-v
+    mul-v
+    shr-v
+    sub-resolution
+    resolution-requires
+    place-requires
+    rem-v
+    in-sevens-requires
+    cast-z
+    sub-sevens
+    sevens-requires
+    sub-taken
+    sub-result
+    returns
+    returns-2)
