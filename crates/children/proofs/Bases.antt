@@ -11,28 +11,28 @@ use lib.Pow.{pow-add, pow-pos, pow-mono, split, shr-shr, mod-mod-pow, ones-lt}
 use Rattle.index.specs.View.{octal}
 use Rattle.children.specs.Positions.{below}
 
--- of k fields of j + t bits of v: the t bits from bit s on, each in the lowest place of its field
-pub picks : ℕ → ℕ → ℕ → ℕ → ℕ → ℕ
-picks j t s zero v = 0
-picks j t s (suc k) v = picks j t s k (v / 2 ^ (j + t)) * 2 ^ (j + t) + v / 2 ^ s % 2 ^ t
+-- of k fields of l bits of v: the t bits from bit s on, each in the lowest place of its field
+unfoldable pub picks : ℕ → ℕ → ℕ → ℕ → ℕ → ℕ
+picks l t s zero v = 0
+picks l t s (suc k) v = picks l t s k (v / 2 ^ l) * 2 ^ l + v / 2 ^ s % 2 ^ t
 
 -- the mask that leaves them
-pub mask : ℕ → ℕ → ℕ → ℕ
-mask j t zero = 0
-mask j t (suc k) = mask j t k * 2 ^ (j + t) + (2 ^ t - 1)
+unfoldable pub mask : ℕ → ℕ → ℕ → ℕ
+mask l t zero = 0
+mask l t (suc k) = mask l t k * 2 ^ l + (2 ^ t - 1)
 
-pub masked : (j t s k v : ℕ) → bitAnd (v / 2 ^ s) (mask j t k) ≡ picks j t s k v
+pub masked : (l t s k v : ℕ) → t ≤ l → bitAnd (v / 2 ^ s) (mask l t k) ≡ picks l t s k v
 unfolding picks mask
-masked j t s zero v = and-mask (v / 2 ^ s) 0 ∙ omega arith
-masked j t s (suc k) v =
+masked l t s zero v h = and-mask (v / 2 ^ s) 0 ∙ omega arith
+masked l t s (suc k) v h =
     let x : ℕ = v / 2 ^ s in
-    let l : ℕ = j + t in
-    let lt : 2 ^ t - 1 < 2 ^ l = lt-of-lt-of-le (ones-lt t) (pow-mono {i = t} {j = l} (omega arith)) in
+    let lt : 2 ^ t - 1 < 2 ^ l = lt-of-lt-of-le (ones-lt t) (pow-mono h) in
     let hi : x / 2 ^ l ≡ v / 2 ^ l / 2 ^ s = shr-shr v s l ∙ ap (λ (i : ℕ). v / 2 ^ i) (add-comm s l) ∙ sym (shr-shr v l s) in
-    let lo : bitAnd (x % 2 ^ l) (2 ^ t - 1) ≡ x % 2 ^ t = and-mask (x % 2 ^ l) t ∙ mod-mod-pow x j t in
-    ap (λ (z : ℕ). bitAnd z (mask j t k * 2 ^ l + (2 ^ t - 1))) (sym (split x l))
-    ∙ and-block l (x / 2 ^ l) (mask j t k) (x % 2 ^ l) (2 ^ t - 1) (mod-lt x (pow-pos l)) lt
-    ∙ rw (hi, lo, masked j t s k (v / 2 ^ l))
+    let e : l ≡ l - t + t = omega arith in
+    let lo : bitAnd (x % 2 ^ l) (2 ^ t - 1) ≡ x % 2 ^ t = and-mask (x % 2 ^ l) t ∙ ap (λ (i : ℕ). x % 2 ^ i % 2 ^ t) e ∙ mod-mod-pow x (l - t) t in
+    ap (λ (z : ℕ). bitAnd z (mask l t k * 2 ^ l + (2 ^ t - 1))) (sym (split x l))
+    ∙ and-block l (x / 2 ^ l) (mask l t k) (x % 2 ^ l) (2 ^ t - 1) (mod-lt x (pow-pos l)) lt
+    ∙ rw (hi, lo, masked l t s k (v / 2 ^ l) h)
 
 -- the k fields of v with b as the base, read with q as the base
 pub val : ℕ → ℕ → ℕ → ℕ → ℕ
@@ -44,13 +44,13 @@ odds : ℕ → ℕ → ℕ → ℕ
 odds b zero v = 0
 odds b (suc k) v = odds b k (v / b / b) * (b * b) + v / b % b
 
-picked-odds : (i k v : ℕ) → picks i i i k v ≡ odds (2 ^ i) k v
+picked-odds : (i k v : ℕ) → picks (i + i) i i k v ≡ odds (2 ^ i) k v
 unfolding picks odds
 picked-odds i zero v = refl
 picked-odds i (suc k) v = rw (← (shr-shr v i i), picked-odds i k (v / 2 ^ i / 2 ^ i), pow-add 2 i i)
 
-odds-mask : (i k v : ℕ) → bitAnd (v / 2 ^ i) (mask i i k) ≡ odds (2 ^ i) k v
-odds-mask i k v = masked i i i k v ∙ picked-odds i k v
+odds-mask : (i k v : ℕ) → bitAnd (v / 2 ^ i) (mask (i + i) i k) ≡ odds (2 ^ i) k v
+odds-mask i k v = masked (i + i) i i k v (omega arith) ∙ picked-odds i k v
 
 -- v by its lowest pair
 pair : (b v : ℕ) → v ≡ v / b / b * (b * b) + (v / b % b * b + v % b)

@@ -1,7 +1,6 @@
 pub mod Strings
 pub mod Counts
 pub mod Below
-pub mod Places
 pub mod Start
 pub mod Tab
 pub mod Ranks
@@ -24,3 +23,5 @@ pub mod Filled
 pub mod Bases
 pub mod Shifts
 pub mod Ranking
+pub mod Fields
+pub mod Eights

@@ -17,7 +17,7 @@ use Rattle.children.specs.Positions.{below, rank, seg}
 use Rattle.children.proofs.Counts.{ones, ones-six}
 use Rattle.children.proofs.Exact.{digits-back}
 use Rattle.children.proofs.Ancestors.{ancestor-above, own-is, owner-fits, owner-valid, owner-low}
-use Rattle.children.proofs.Shifts.{Led, octal-more, led, led-most, led-long, shifted}
+use Rattle.children.proofs.Shifts.{Led, octal-sixteen, led, led-most, led-long, shifted}
 
 octal-seg : (y k m : ℕ) → k + m ≤ 15 → octal (seg y k m) ≡ run y k m
 unfolding octal seg
@@ -25,13 +25,6 @@ octal-seg y k zero h = sym (run-zero y k)
 octal-seg y k (suc m) h =
     let e : k + m + 1 ≡ k + suc m = omega arith in
     rw (octal-seg y k m (omega arith), e) (sym (run-suc y k m h))
-
--- sixteen places are enough
-octal-sixteen : (m p : ℕ) → m ≤ 15 → p < 7 ^ m → (p < 7 ^ 16) × (octal (below false m p) ≡ octal (below false 16 p))
-octal-sixteen m p g h =
-    let l : 7 ^ m ≤ 7 ^ 16 = pow-le-pow-right (omega arith) {i = m} {j = 16} (omega arith) in
-    let e : m + (16 - m) ≡ 16 = omega arith in
-    (omega arith, sym (octal-more m (16 - m) p h) ∙ ap (λ (k : ℕ). octal (below false k p)) e)
 
 -- the digits k + 1 to k + m of n are those of a position
 abbrev Back : Bool → ℕ → ℕ → ℕ → Type 0

@@ -15,7 +15,7 @@ use Rattle.index.proofs.Runs.{place}
 use Rattle.index.proofs.View.{octal-lt}
 use Rattle.children.specs.Descendants.{count}
 use Rattle.children.specs.Positions.{below}
-use Rattle.children.proofs.Counts.{ones, sevens-six, count-ones, sevens-pos}
+use Rattle.children.proofs.Counts.{ones, sevens-six, ones-six, count-ones, sevens-pos}
 use Rattle.children.proofs.Below.{length-below, digits-below, octal-zero}
 
 -- places past the digits of a position are 0
@@ -29,7 +29,14 @@ octal-more (suc m) j p h =
     let e : suc m + j ≡ suc (m + j) = omega arith in
     rw (e, octal-more m j (p / 7) (omega (arith, pow-suc 7 m)))
 
--- from the first of a position that is not 0, its digits are j
+-- sixteen places are enough
+pub octal-sixteen : (m p : ℕ) → m ≤ 15 → p < 7 ^ m → (p < 7 ^ 16) × (octal (below false m p) ≡ octal (below false 16 p))
+octal-sixteen m p g h =
+    let l : 7 ^ m ≤ 7 ^ 16 = pow-le-pow-right (omega arith) {i = m} {j = 16} (omega arith) in
+    let e : m + (16 - m) ≡ 16 = omega arith in
+    (omega arith, sym (octal-more m (16 - m) p h) ∙ ap (λ (k : ℕ). octal (below false k p)) e)
+
+-- a position's digits from the first that is not 0
 pub octal-least : (m l p : ℕ) → p < 7 ^ m → 7 ^ l ≤ p → 8 ^ l ≤ octal (below false m p)
 unfolding octal below
 octal-least zero l p h g = absurd (let z : ⊥ = omega (arith, sevens-pos l) in z)
@@ -112,3 +119,42 @@ led-long m p (suc i) g k h =
     let c : octal (below false m (p + ones (suc i))) < 8 ^ suc i = octal-most m (suc i) (p + ones (suc i)) g a in
     let d : 8 ^ suc i ≤ 8 ^ 16 = pow-le-pow-right (omega arith) {i = suc i} {j = 16} (omega arith) in
     rw e (digits-long (octal (below false m (p + ones (suc i)))) i (omega arith) (octal-least m i (p + ones (suc i)) (omega arith) (led-least p i h)) c)
+
+-- s is 1 + 7 + .. , j of them, and p has no more digits from the first that is not 0
+pub record Stage (m p s : ℕ) : Type 0 where
+  pub j : ℕ
+  pub few : j ≤ m
+  pub same : s ≡ ones j
+  pub most : p ≤ 5 * s
+
+pub stage-first : (m p s : ℕ) → p < count true m → s ≡ 7 ^ m → Stage m p ((s - 1) / 6)
+stage-first m p s h e =
+    let q : (s - 1) / 6 ≡ ones m = rw e (ones-six m) in
+    record { j = m; few = omega arith; same = q; most = omega (arith, count-ones m) }
+
+pub stage-fits : (m p s : ℕ) → m ≤ 15 → Stage m p s → s ≤ 7 ^ 15
+stage-fits m p s h g =
+    let l : 7 ^ (g .j) ≤ 7 ^ 15 = pow-le-pow-right (omega arith) {i = g .j} {j = 15} (omega (arith, g .few)) in
+    omega (arith, g .same, sevens-six (g .j))
+
+pub stage-next : (m p s : ℕ) → 0 < p → p ≤ 5 * (s / 7) → Stage m p s → Stage m p (s / 7)
+unfolding ones
+stage-next m p s g l h = go (h .j) (h .few) (h .same)
+  where
+    go : (j : ℕ) → j ≤ m → s ≡ ones j → Stage m p (s / 7)
+    go zero f e = absurd (let z : ⊥ = omega arith in z)
+    go (suc i) f e = record { j = i; few = omega arith; same = omega arith; most = l }
+
+pub stage-last : (m p s : ℕ) → m ≤ 15 → 0 < p → 5 * (s / 7) < p → Stage m p s → (octal (below true m p) ≡ octal (below false 16 (p + s))) × (p + s < 7 ^ 16)
+unfolding ones
+stage-last m p s k g l h = go (h .j) (h .few) (h .same) (h .most)
+  where
+    end : (j : ℕ) → j ≤ m → s ≡ ones j → Led p j → (octal (below true m p) ≡ octal (below false 16 (p + s))) × (p + s < 7 ^ 16)
+    end j f e d =
+        let r : 7 ^ j ≤ 7 ^ m = pow-le-pow-right (omega arith) f in
+        let t = octal-sixteen m (p + ones j) k (omega (arith, led-most p j d)) in
+        rw e (ap octal (shifted m p j d) ∙ t .1, t .0)
+
+    go : (j : ℕ) → j ≤ m → s ≡ ones j → p ≤ 5 * s → (octal (below true m p) ≡ octal (below false 16 (p + s))) × (p + s < 7 ^ 16)
+    go zero f e n = absurd (let z : ⊥ = omega arith in z)
+    go (suc i) f e n = end (suc i) f e (omega arith, omega arith)

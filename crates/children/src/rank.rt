@@ -5,8 +5,8 @@ ghost use Prim.Native.Nat.{ℕ, _+_, _-_, _*_, _^_, _≤_, _<_};
 ghost use Rattle.index.specs.Layout.{Valid, resOf};
 ghost use Rattle.index.specs.View.{octal};
 ghost use Rattle.index.specs.Ancestor.{ancestorOf};
-ghost use Rattle.children.specs.Descendants.{pentagon, countOf};
-ghost use Rattle.children.specs.Positions.{bump, below, childAt, rank as rankOf, seg, foundOf, toldFound};
+ghost use Rattle.children.specs.Descendants.{pentagon, count, countOf};
+ghost use Rattle.children.specs.Positions.{below, childAt, rank as rankOf, seg, foundOf, toldFound};
 use crate::children::get_starting_state;
 use crate::count::sevens;
 use index::Cell;
@@ -26,36 +26,39 @@ pub enum Found {
     NotUnder,
 }
 
-fn bumped(pent: bool, p: u64) -> u64
-    requires { ⌜ p < 2 ^ 62 ⌝ }
-    ensures { λ r. ⌜ r ≡ bump pent p ⌝ }
+// The position p counted with the deleted ones: that of the same digits below a hexagon.
+fn with_deleted(pent: bool, m: u64, p: u64) -> u64
+    requires { ⌜ (m ≤ 15) × (p < count pent m) ⌝ }
+    ensures { λ r. ⌜ (octal (below pent m p) ≡ octal (below false 16 r)) × (r < 7 ^ 16) ⌝ }
 {
     if pent {
         if p == 0 {
             return 0;
         }
-        return p + 1;
+        let mut deleted = (sevens(m) - 1) / 6;
+        while p <= 5 * (deleted / 7) {
+            deleted /= 7;
+        }
+        return p + deleted;
     }
     p
 }
 
-// The m digits of position p are added, the finest in the place of `unit`.
-fn put_digits(bits: u64, unit: u64, pent: bool, m: u64, p: u64) -> u64
-    requires { ⌜ (bits + unit * octal (below pent m p) < 2 ^ 64) × (unit * 8 ^ m ≤ 2 ^ 45) × (p < 2 ^ 62) ⌝ }
-    ensures { λ r. ⌜ r ≡ bits + unit * octal (below pent m p) ⌝ }
+// A position below a hexagon as sixteen digits with eight as their base: fields of eight, four and two digits are split, the upper half of
+// each being a quotient by 2401, 49 and 7.
+fn in_eights(p: u64) -> u64
+    requires { ⌜ p < 7 ^ 16 ⌝ }
+    ensures { λ r. ⌜ r ≡ octal (below false 16 p) ⌝ }
 {
-    let mut acc = bits;
-    let mut u = unit;
-    let mut left = m;
-    let mut q = p;
-    while 0 < left {
-        let v = bumped(pent, q);
-        acc += u * (v % 7);
-        u *= 8;
-        q = v / 7;
-        left -= 1;
-    }
-    acc
+    let l = p % 5764801;
+    let h = p / 5764801;
+    let v2 = l + 1695 * (l / 2401) + (h + 1695 * (h / 2401)) * 0x100_0000;
+    let e2 = (((v2 & 0o777700007777) * 1338) >> 16) & 0o7700000077;
+    let o2 = ((((v2 >> 12) & 0o777700007777) * 1338) >> 16) & 0o7700000077;
+    let v3 = v2 + 15 * (e2 + o2 * 4096);
+    let e3 = (((v3 & 0o77007700770077) * 37) >> 8) & 0o7000700070007;
+    let o3 = ((((v3 >> 6) & 0o77007700770077) * 37) >> 8) & 0o7000700070007;
+    v3 + e3 + o3 * 64
 }
 
 pub fn child_at(c: Cell, t: Resolution, p: u64) -> Cell
@@ -64,10 +67,9 @@ pub fn child_at(c: Cell, t: Resolution, p: u64) -> Cell
 {
     let own = resolution_number(resolution_of(c));
     let target = resolution_number(t);
-    let pent = is_pentagon(c);
-    let start = get_starting_state(c, t);
-    let unit = place(t);
-    cell(put_digits(start, unit, pent, target - own, p))
+    let q = with_deleted(is_pentagon(c), target - own, p);
+    let digits = in_eights(q);
+    cell(get_starting_state(c, t) + place(t) * digits)
 }
 
 // Sixteen digits with eight as their base, read with seven as the base: pairs of fields are joined, four times.
