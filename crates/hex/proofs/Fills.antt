@@ -24,17 +24,17 @@ part-more f (x ∷ xs) [] i h l = absurd (not-suc-le-zero l)
 part-more f (x ∷ xs) (y ∷ ys) zero h l = refl
 part-more f (x ∷ xs) (y ∷ ys) (suc i) h l = ap (λ (r : List ℕ). f x ∷ r) (part-more f xs ys i (le-of-suc-le-suc h) (le-of-suc-le-suc l))
 
-pub more : (f : ℕ → ℕ) (block lent now : List ℕ) (i v : ℕ) → i < length block → i < length lent → now ≡ part f block lent i → v ≡ f (getD block i 0) → set now i v ≡ part f block lent (i + 1)
+more : (f : ℕ → ℕ) (block lent now : List ℕ) (i v : ℕ) → i < length block → i < length lent → now ≡ part f block lent i → v ≡ f (getD block i 0) → set now i v ≡ part f block lent (i + 1)
 more f block lent now i v h l e w = rw (e, w, add-one) (part-more f block lent i h l)
 
 whole : (f : ℕ → ℕ) (block lent : List ℕ) (i : ℕ) → i ≡ length block → part f block lent i ≡ map f block ++ drop (length block) lent
 whole f block lent i e = rw (e, take-length block)
 
-either : (a b : Bool) → a || b ≡ false → (a ≡ false) × (b ≡ false)
+pub either : (a b : Bool) → a || b ≡ false → (a ≡ false) × (b ≡ false)
 either true b e = absurd (true≢false e)
 either false b e = (refl, e)
 
-neither : (n v r : ℕ) → n ≤ v → n ≤ r → (ltb v n || ltb r n) ≡ false
+pub neither : (n v r : ℕ) → n ≤ v → n ≤ r → (ltb v n || ltb r n) ≡ false
 neither n v r h k = rw (le-ltb v n h, le-ltb r n k)
 
 -- where the loop stands: i elements of each lent block are written

@@ -42,9 +42,9 @@ pub fn check_block(cells: &[u64], values: &mut [u64], refusals: &mut [u16]) -> N
     }
     let mut i = 0;
     while i < n {
-        let a = kept(cells[i]);
-        values[i] = a.value();
-        refusals[i] = a.refusal();
+        let c = kept(cells[i]);
+        values[i] = c.value();
+        refusals[i] = c.refusal();
         i += 1;
     }
     Number::Is(n as u64)
@@ -87,9 +87,9 @@ pub fn position_block(
     let checked = index::check(first);
     let mut i = 0;
     while i < n {
-        let a = below(first, checked, seconds[i]);
-        values[i] = a.value();
-        refusals[i] = a.refusal();
+        let p = below(first, checked, seconds[i]);
+        values[i] = p.value();
+        refusals[i] = p.refusal();
         i += 1;
     }
     Number::Is(n as u64)

@@ -2,7 +2,6 @@
 use borrow.Author.Needs.{needs}
 use Prim.Native.Nat.{ℕ, _-_}
 use native.Mathlib.Omega.{arith}
-use lib.ListN.{length, length-set}
 use Rattle.index.specs.Refusals.{Outcome}
 use Rattle.hex.specs.Cells.{ancestorOf}
 use Rattle.hex.proofs.Fills as fills
@@ -10,8 +9,11 @@ use Rattle.hex.proofs.Fills.{Filled}
 use Rattle.hex.proofs.blocks.ancestor_block.Statement.{statement}
 use Rattle.hex.proofs.blocks.ancestor_block.Tie as tie
 
+abbrev at : ℕ → ℕ → Outcome ℕ
+at coarser raw = ancestorOf raw coarser
+
 abbrev Inv-loop : tie.InvT-loop
-Inv-loop cells coarser values₀ refusals₀ n i₀ values refusals i = Filled (λ (raw : ℕ). ancestorOf raw coarser) cells values₀ refusals₀ values refusals i
+Inv-loop cells coarser values₀ refusals₀ n i₀ values refusals i = Filled (at coarser) cells values₀ refusals₀ values refusals i
 
 abbrev μ-loop : tie.MeasureT-loop
 μ-loop cells coarser values₀ refusals₀ n i₀ values refusals i = n - i
@@ -26,13 +28,13 @@ returns : tie.Need-returns Inv-loop μ-loop
 returns c =
     let t = c .before .before in
     let s = t .before .before .before .before .args in
-    fills.no-room (λ (raw : ℕ). ancestorOf raw (s .coarser)) (s .cells .now) (s .values .now) (s .refusals .now) (t .is-short .result) _ (t .is-short .ensures) (c .before .if1 .taken) (c .refusal .ensures)
+    fills.no-room (at (s .coarser)) (s .cells .now) (s .values .now) (s .refusals .now) (t .is-short .result) _ (t .is-short .ensures) (c .before .if1 .taken) (c .refusal .ensures)
 
 loop-holds : tie.Need-loop-holds Inv-loop μ-loop
 loop-holds c =
     let t = c .before in
     let s = t .before .before .before .before .args in
-    fills.begin (λ (raw : ℕ). ancestorOf raw (s .coarser)) (s .cells .now) (s .values .now) (s .refusals .now) (t .is-short .result) (t .is-short .ensures) (c .if1 .left)
+    fills.begin (at (s .coarser)) (s .cells .now) (s .values .now) (s .refusals .now) (t .is-short .result) (t .is-short .ensures) (c .if1 .left)
 
 mul-ancestor : tie.Need-mul-ancestor Inv-loop μ-loop
 mul-ancestor c = search needs
@@ -72,7 +74,7 @@ loop-again c =
     let a = c .before .before in
     let t = a .before .before in
     let s = t .before .before .before .before .before .before .before .args in
-    fills.again (λ (raw : ℕ). ancestorOf raw (s .coarser)) (s .cells .now) (s .values .now) (s .refusals .now) _ _ _ (t .before .loop .inv) _ _ _ (t .loop-test .taken) (a .ancestor .ensures) (c .before .value .ensures) (c .refusal2 .ensures)
+    fills.again (at (s .coarser)) (s .cells .now) (s .values .now) (s .refusals .now) _ _ _ (t .before .loop .inv) _ _ _ (t .loop-test .taken) (a .ancestor .ensures) (c .before .value .ensures) (c .refusal2 .ensures)
 
 same-length : tie.Need-same-length Inv-loop μ-loop
 same-length c = c .before .loop .inv .long
@@ -83,7 +85,7 @@ same-length-2 c = c .before .loop .inv .long-too
 returns-2 : tie.Need-returns-2 Inv-loop μ-loop
 returns-2 c =
     let s = c .before .before .before .before .before .before .before .args in
-    fills.end (λ (raw : ℕ). ancestorOf raw (s .coarser)) (s .cells .now) (s .values .now) (s .refusals .now) _ _ _ (c .before .loop .inv) (c .loop-test .left)
+    fills.end (at (s .coarser)) (s .cells .now) (s .values .now) (s .refusals .now) _ _ _ (c .before .loop .inv) (c .loop-test .left)
 
 pub ancestor-block-spec : {M : Type 1} → statement M
 ancestor-block-spec =

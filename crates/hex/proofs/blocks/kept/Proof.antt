@@ -34,7 +34,7 @@ bad : (raw k : ℕ) → refused k ≡ validOf raw → refused k ≡ keptOf raw
 bad raw k e = sym (met-refused (cellRules raw) raw k (refused-met (cellRules raw) tt k (sym e)))
 
 returns : tie.Need-returns
-returns c = let a = c .before .before in valid _ (a .check .result) (c .before .match .keys2) (a .check .ensures)
+returns c = let a = c .before .before in valid (a .before .args .raw) (a .check .result) (c .before .match .keys2) (a .check .ensures)
 
 returns-2 : tie.Need-returns-2
 returns-2 c = let a = c .before .before .before in bad (a .before .args .raw) _ (sym (ap toldChecked (c .before .a .given .1)) ∙ a .check .ensures)
