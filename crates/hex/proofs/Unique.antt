@@ -4,7 +4,7 @@ use mathlib.Core.Path.{_≡_, refl, sym, ap, _∙_}
 use mathlib.Core.Bool.{Bool}
 use Prim.Native.Nat.{ℕ}
 use native.Mathlib.Nat.{suc-ne-zero}
-use mathlib.Core.List.{[], _∷_}
+use mathlib.Core.List.{List, [], _∷_}
 use Rattle.index.specs.Refusals.{Outcome, answered, refused, judged}
 use Rattle.index.specs.declared.Refusal.{Refusal}
 use Rattle.index.proofs.Rules.{never, refused-inj, answered-inj}
@@ -21,6 +21,7 @@ use Rattle.hex.specs.declared.answers.Walked.{Walked}
 use Rattle.hex.specs.declared.answers.Stepped.{Stepped}
 use Rattle.hex.specs.Steps.{Under, ReadsBack}
 use Rattle.hex.specs.Cells.{resolutionRule}
+use Rattle.hex.proofs.Fills.{Done}
 use Rattle.hex.specs.Points.{rangeRule}
 use Rattle.grid.specs.Steps.{Answer, inside, leaves}
 use Rattle.grid.specs.Centres.{Reads}
@@ -47,6 +48,10 @@ told-number (Number.Refused x) (Number.Refused y) e = ap Number.Refused (same-re
 
 pub one-number : (o : Outcome (ℕ)) (r s : Number) → toldNumber r ≡ o → toldNumber s ≡ o → r ≡ s
 one-number o r s p q = told-number r s (p ∙ sym q)
+
+-- an entry over a block: its answer, and the two lent blocks afterwards
+pub one-block : (entry : ℕ → Outcome ℕ) (block v₀ r₀ : List ℕ) (x y : Number) (v w r s : List ℕ) → Done entry block v₀ r₀ (toldNumber x) v r → Done entry block v₀ r₀ (toldNumber y) w s → (x ≡ y) × (v ≡ w) × (r ≡ s)
+one-block entry block v₀ r₀ x y v w r s p q = (told-number x y (p .0 ∙ sym (q .0)), p .1 ∙ sym (q .1), p .2 ∙ sym (q .2))
 
 told-truth : (r s : Truth) → toldTruth r ≡ toldTruth s → r ≡ s
 told-truth (Truth.Is a) (Truth.Is b) e = ap Truth.Is (answered-inj e)

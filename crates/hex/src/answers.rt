@@ -2,6 +2,7 @@
 ghost use mathlib.Core.Path.{_≡_};
 ghost use Rattle.index.specs.Refusals.{numberOf};
 ghost use Rattle.hex.specs.Answers.{toldChecked, toldNumber, toldTruth, toldPoint, toldPair, toldStarted, toldWalked, toldStepped};
+ghost use Rattle.hex.specs.Blocks.{valueOf};
 use children::Cursor;
 use index::Refusal;
 use plane::ijk::IJ;
@@ -73,6 +74,16 @@ impl Number {
         match self {
             Number::Is(_) => 0,
             Number::Refused(x) => x.number(),
+        }
+    }
+
+    // The number, or 0 where it is refused.
+    pub(crate) fn value(self) -> u64
+        ensures { λ r. ⌜ r ≡ valueOf (toldNumber self) ⌝ }
+    {
+        match self {
+            Number::Is(n) => n,
+            Number::Refused(_) => 0,
         }
     }
 }

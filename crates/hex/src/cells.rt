@@ -3,6 +3,7 @@ ghost use mathlib.Core.Path.{_≡_};
 ghost use Prim.Native.Nat.{_+_, _≤_};
 ghost use lib.ListN.{length};
 ghost use Rattle.index.specs.Layout.{Valid, resOf};
+ghost use Rattle.index.specs.Check.{checkOf, told};
 ghost use Rattle.children.specs.Cursors.{nextOf};
 ghost use Rattle.hex.specs.Answers.{toldChecked, toldNumber, toldStarted};
 ghost use Rattle.hex.specs.Cells.{validOf, countOf, childAtOf, cursorOf, roomOf, listOf, listShortOf, afterwards, positionOf, ancestorOf};
@@ -108,10 +109,11 @@ pub fn list_short(raw: u64, buf: &mut [u64]) -> Number
     fill(cell, resolution(target), buf)
 }
 
-pub fn position(first: u64, second: u64) -> Number
+// The position below a first cell whose check is handed in.
+pub(crate) fn below(first: u64, a: index::Checked, second: u64) -> Number
+    requires { ⌜ told a ≡ checkOf first ⌝ }
     ensures { λ r. ⌜ toldNumber r ≡ positionOf first second ⌝ }
 {
-    let a = index::check(first);
     let index::Checked::Valid(cell) = a else {
         return Number::Refused(a.refusal());
     };
@@ -124,6 +126,12 @@ pub fn position(first: u64, second: u64) -> Number
         return Number::Refused(refusal(12));
     };
     Number::Is(p)
+}
+
+pub fn position(first: u64, second: u64) -> Number
+    ensures { λ r. ⌜ toldNumber r ≡ positionOf first second ⌝ }
+{
+    below(first, index::check(first), second)
 }
 
 pub fn ancestor(raw: u64, coarser: u32) -> Number

@@ -1,5 +1,6 @@
 // The library's face: the public entries. They take any numbers, and have no `requires`.
 mod answers;
+mod blocks;
 mod cells;
 mod finer;
 mod judge;
@@ -14,6 +15,9 @@ pub use answers::Started;
 pub use answers::Stepped;
 pub use answers::Truth;
 pub use answers::Walked;
+pub use blocks::ancestor_block;
+pub use blocks::check_block;
+pub use blocks::position_block;
 pub use cells::ancestor;
 pub use cells::check;
 pub use cells::child_at;
