@@ -121,10 +121,6 @@ sense false k c x y h e p =
     (λ d l. at-eq 8 (turns true (6 - k)) (turns false k) (at 6 (λ (k : ℕ). every 8 (λ d. eqb (turns true (6 - k) d) (turns false k d))) tt k (omega arith)) d l)
     (rw e at p)
 
-pub sense-le : (o : Bool) (k : ℕ) → k ≤ 5 → cond o k (6 - k) ≤ 6
-sense-le true k h = omega arith
-sense-le false k h = omega arith
-
 turns-seven : (o : Bool) (k : ℕ) → k ≤ 5 → turns o k 7 ≡ 7
 turns-seven true k h = at-eq 6 (λ (k : ℕ). turns true k 7) (λ k. 7) tt k (omega arith)
 turns-seven false k h = at-eq 6 (λ (k : ℕ). turns false k 7) (λ k. 7) tt k (omega arith)

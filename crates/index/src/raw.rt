@@ -44,7 +44,8 @@ fn refusal_number(n: u64) -> u64
     let u = unused(get_resolution(n));
     let s = marks(n);
     let zeros = u64::leading_zeros(n % DIGITS_END);
-    let k7 = sel(is_pentagon(base) & (zeros % 3 == 0), 7, 0);
+    let pent = is_pentagon(base);
+    let k7 = sel(pent & (zeros % 3 == 0), 7, 0);
     let k6 = sel(s < u, 6, k7);
     let k5 = sel(u < s, 5, k6);
     let k4 = sel(121 < base, 4, k5);

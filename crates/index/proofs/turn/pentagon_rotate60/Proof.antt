@@ -1,13 +1,14 @@
 -- `index::turn::pentagon_rotate60` meets its contract. Assumes nothing.
 use borrow.Author.Needs.{needs}
 use mathlib.Core.Path.{_≡_, _∙_}
-use mathlib.Core.Bool.{Bool, true, false, cond}
+use mathlib.Core.Bool.{Bool, cond}
 use Prim.Native.Nat.{ℕ, _≤_}
 use native.Mathlib.Omega.{arith}
 use lib.Dec.{eqb}
 use Rattle.index.specs.Layout.{resOf, firstOf}
 use Rattle.index.specs.Turns.{turnedBy, pentagonTurned}
 use Rattle.index.proofs.View.{first-used}
+use Rattle.index.proofs.Digitwise.{chosen-le}
 use Rattle.index.proofs.turn.pentagon_rotate60.Statement.{statement}
 use Rattle.index.proofs.turn.pentagon_rotate60.Tie as tie
 
@@ -15,10 +16,6 @@ use Rattle.index.proofs.turn.pentagon_rotate60.Tie as tie
 law : (o : Bool) (n b f k y : ℕ) → b ≡ cond o 3 5 → f ≡ firstOf n (resOf n) → k ≡ cond (eqb f b) 2 1 → y ≡ turnedBy o k n → y ≡ pentagonTurned o n
 unfolding pentagonTurned
 law o n b f k y eb ef ek ey = ey ∙ rw (ek, ef, eb, first-used n (resOf n))
-
-count-le : (t : Bool) (k : ℕ) → k ≡ cond t 2 1 → k ≤ 2
-count-le true k e = omega arith
-count-le false k e = omega arith
 
 sel-requires : tie.Need-sel-requires
 sel-requires c κs = search needs
@@ -29,14 +26,14 @@ first-axe-requires c κs = search needs
 sel-requires-2 : tie.Need-sel-requires-2
 sel-requires-2 c κs = search needs
 
-count : (c : tie.After-sel2) → c .sel2 .result ≤ 2
-count c = count-le (eqb (c .before .first-axe .result) (c .before .before .sel .result)) _ (c .sel2 .ensures)
+count : (c : tie.After-sel2) → c .sel2 .result ≤ 5
+count c = chosen-le (eqb (c .before .first-axe .result) (c .before .before .sel .result)) _ _ _ 5 (c .sel2 .ensures) (omega arith) (omega arith)
 
 cast-rotate60 : tie.Need-cast-rotate60
 cast-rotate60 c = let h = count c in omega arith
 
 rotate60-requires : tie.Need-rotate60-requires
-rotate60-requires c κs = let h = count c in (c .before .before .before .pre, omega arith)
+rotate60-requires c κs = (c .before .before .before .pre, count c)
 
 returns : tie.Need-returns
 returns c =

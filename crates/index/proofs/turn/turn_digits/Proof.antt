@@ -1,9 +1,8 @@
 -- `index::turn::turn_digits` meets its contract. Assumes nothing.
 use borrow.Author.Needs.{needs}
-use mathlib.Core.Path.{sym, subst}
-use Prim.Native.Nat.{ℕ, _≤_}
 use native.Mathlib.Omega.{arith}
-use Rattle.index.proofs.Wordwise.{sense, sense-le, placed}
+use Rattle.index.proofs.Digitwise.{chosen-le}
+use Rattle.index.proofs.Wordwise.{sense, placed}
 use Rattle.index.proofs.turn.turn_digits.Statement.{statement}
 use Rattle.index.proofs.turn.turn_digits.Tie as tie
 
@@ -17,7 +16,7 @@ sel-requires : tie.Need-sel-requires
 sel-requires c κs = search needs
 
 turn-word-requires : tie.Need-turn-word-requires
-turn-word-requires c κs = (omega arith, subst (λ (x : ℕ). x ≤ 6) (sym (c .sel .ensures)) (sense-le (c .before .args .ccw) (c .before .args .count) (c .before .pre .2)))
+turn-word-requires c κs = (omega arith, chosen-le (c .before .args .ccw) _ _ _ 6 (c .sel .ensures) (omega (arith, c .before .pre .2)) (omega arith))
 
 add-result : tie.Need-add-result
 add-result c = omega (arith, c .turn-word .ensures .short)
