@@ -27,6 +27,14 @@ length-ramp l i q s (suc k) = simp length-set (length-ramp l i q s k)
 pub ramp-length : (l l' : List ℕ) (i q s k : ℕ) → l' ≡ ramp l i q s k → length l' ≡ length l
 ramp-length l l' i q s k e = ap length e ∙ length-ramp l i q s k
 
+length-stairs : (l : List ℕ) (i q s k : ℕ) → length (stairs l i q s k) ≡ length l
+unfolding stairs
+length-stairs l i q s zero = refl
+length-stairs l i q s (suc k) = length-ramp (stairs l i q s k) (i + 7 * k) (q + k * (8 * s)) s 7 ∙ length-stairs l i q s k
+
+pub stairs-length : (l l' : List ℕ) (i q s k : ℕ) → l' ≡ stairs l i q s k → length l' ≡ length l
+stairs-length l l' i q s k e = ap length e ∙ length-stairs l i q s k
+
 module _ (f : ℕ → ℕ) (b : List ℕ) where
   pub put : (v : ℕ) → 0 < length b → v ≡ f 0 → set b 0 v ≡ tab f 1 ++ drop 1 b
   put v h e = rw (← (tab-none f b)) at (tab-more f b 0 v h e)

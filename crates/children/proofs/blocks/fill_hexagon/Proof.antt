@@ -7,7 +7,7 @@ use native.Mathlib.Omega.{arith}
 use lib.ListN.{length, length-set}
 use Rattle.children.specs.Descendants.{count}
 use Rattle.children.specs.Copies.{numberAt}
-use Rattle.children.proofs.Copies.{ramp-length, long-as, again, then}
+use Rattle.children.proofs.Copies.{ramp-length, stairs-length, again, then}
 use Rattle.children.proofs.Levels.{unit-room, count-mono}
 use Rattle.children.proofs.Filled as filled
 use Rattle.children.proofs.blocks.fill_hexagon.Statement.{statement}
@@ -32,7 +32,7 @@ run-requires : tie.Need-run-requires
 run-requires c κs =
     let s = c .before .before .before .before in
     let r = unit-room (s .args .unit) (s .args .m) 1 (omega (arith, c .before .if2 .taken)) (s .pre .1) in
-    (seven (c .before), omega (arith, r, s .pre .2))
+    (omega (arith, seven (c .before)), omega (arith, r, s .pre .2))
 
 same-length-2 : tie.Need-same-length-2
 same-length-2 c = ramp-length _ _ _ _ _ _ (c .before .before .run .ensures)
@@ -55,7 +55,7 @@ runs-requires : tie.Need-runs-requires
 runs-requires c κs =
     let s = c .before .before .before .before in
     let r = unit-room (s .args .unit) (s .args .m) 2 (deep (c .before)) (s .pre .1) in
-    (room (c .before), omega (arith, r, s .pre .2))
+    (omega (arith, room (c .before)), omega (arith, r, s .pre .2))
 
 grow-hexagon-requires : tie.Need-grow-hexagon-requires
 grow-hexagon-requires c κs =
@@ -63,7 +63,7 @@ grow-hexagon-requires c κs =
     let s = t .before .before .before in
     let f = numberAt (s .args .base) (s .args .unit) false (s .args .m) in
     let e = filled.hexagon-49 (s .args .base) (s .args .unit) (s .args .m) (s .args .buf .now) _ (deep t) (room t) (c .before .before .before .runs .ensures) in
-    (deep t, s .pre .0, s .pre .1, s .pre .2, rw (long-as f (s .args .buf .now) _ 49 e (room t)) (s .pre .3), again f (s .args .buf .now) _ 49 e)
+    (deep t, s .pre .0, s .pre .1, s .pre .2, rw (stairs-length _ _ _ _ _ _ (c .before .before .before .runs .ensures)) (s .pre .3), again f (s .args .buf .now) _ 49 e)
 
 same-length-3 : tie.Need-same-length-3
 same-length-3 c = search needs

@@ -7,7 +7,7 @@ use native.Mathlib.Omega.{arith}
 use lib.ListN.{length, length-set}
 use Rattle.children.specs.Descendants.{count}
 use Rattle.children.specs.Copies.{numberAt}
-use Rattle.children.proofs.Copies.{ramp-length, long-as, again, then}
+use Rattle.children.proofs.Copies.{ramp-length, stairs-length, long-as, again, then}
 use Rattle.children.proofs.Levels.{unit-room, count-mono}
 use Rattle.children.proofs.Filled as filled
 use Rattle.children.proofs.blocks.fill_pentagon.Statement.{statement}
@@ -37,11 +37,12 @@ two c =
     let h : 2 ≤ s .args .m = omega (arith, c .before .before .before .before .before .if1 .left, c .if2 .left) in
     (h, omega (arith, count-mono true 2 (s .args .m) h, s .pre .3), unit-room (s .args .unit) (s .args .m) 2 h (s .pre .1))
 
-three : (c : tie.Else3) → let s = c .before .before .before .before .before .before .before .before .before .before .before .before in (3 ≤ s .args .m) × (90 ≤ count true (s .args .m)) × (s .args .unit * 512 ≤ 2 ^ 45)
+three : (c : tie.Else3) → let s = c .before .before .before .before .before .before .before .before .before .before .before .before in (3 ≤ s .args .m) × (90 ≤ length (s .args .buf .now)) × (s .args .unit * 512 ≤ 2 ^ 45) × (90 ≤ count true (s .args .m))
 three c =
     let s = c .before .before .before .before .before .before .before .before .before .before .before .before in
     let h : 3 ≤ s .args .m = omega (arith, two (c .before .before .before .before .before) .0, c .if3 .left) in
-    (h, omega (arith, count-mono true 3 (s .args .m) h), unit-room (s .args .unit) (s .args .m) 3 h (s .pre .1))
+    let g = count-mono true 3 (s .args .m) h in
+    (h, omega (arith, g, s .pre .3), unit-room (s .args .unit) (s .args .m) 3 h (s .pre .1), omega (arith, g))
 
 mul-run : tie.Need-mul-run
 mul-run c = omega (arith, one (c .before) .2)
@@ -50,7 +51,7 @@ add-run : tie.Need-add-run
 add-run c = omega (arith, one (c .before) .2, c .before .before .before .pre .2)
 
 run-requires : tie.Need-run-requires
-run-requires c κs = (simp length-set (one (c .before) .1), omega (arith, one (c .before) .2, c .before .before .before .pre .2))
+run-requires c κs = (simp length-set (omega (arith, one (c .before) .1)), omega (arith, one (c .before) .2, c .before .before .before .pre .2))
 
 same-length-2 : tie.Need-same-length-2
 same-length-2 c = ramp-length _ _ _ _ _ _ (c .before .before .before .run .ensures) ∙ simp length-set
@@ -74,10 +75,7 @@ runs-requires c κs =
     (rw (ramp-length _ _ _ _ _ _ (c .before .before .before .before .run .ensures)) (simp length-set (w .1)), omega (arith, w .2, c .before .before .before .before .before .before .before .before .pre .2))
 
 same-length-3 : tie.Need-same-length-3
-same-length-3 c =
-    let s = c .before .before .before .before .before .before .before .before .before .before .before .before in
-    let w = two (c .before .before .before .before .before) in
-    long-as (numberAt (s .args .base) (s .args .unit) true (s .args .m)) (s .args .buf .now) _ 41 (filled.pentagon-41 (s .args .base) (s .args .unit) (s .args .m) (s .args .buf .now) _ _ (w .0) (w .1) (c .before .before .before .before .before .before .before .before .run .ensures) (c .before .before .before .runs .ensures)) (w .1)
+same-length-3 c = stairs-length _ _ _ _ _ _ (c .before .before .before .runs .ensures) ∙ ramp-length _ _ _ _ _ _ (c .before .before .before .before .before .before .before .before .run .ensures) ∙ simp length-set
 
 returns-3 : tie.Need-returns-3
 returns-3 c =
@@ -94,26 +92,23 @@ add-runs-2 c = omega (arith, three (c .before) .2, c .before .before .before .be
 
 runs-requires-2 : tie.Need-runs-requires-2
 runs-requires-2 c κs =
-    let s = c .before .before .before .before .before .before .before .before .before .before .before .before .before in
-    let w = two (c .before .before .before .before .before .before) in
     let h = three (c .before) in
-    let n = long-as (numberAt (s .args .base) (s .args .unit) true (s .args .m)) (s .args .buf .now) _ 41 (filled.pentagon-41 (s .args .base) (s .args .unit) (s .args .m) (s .args .buf .now) _ _ (w .0) (w .1) (c .before .before .before .before .before .before .before .before .before .run .ensures) (c .before .before .before .before .runs .ensures)) (w .1) in
-    (rw n (omega (arith, h .1, s .pre .3)), omega (arith, h .2, s .pre .2))
+    (rw (stairs-length _ _ _ _ _ _ (c .before .before .before .before .runs .ensures), ramp-length _ _ _ _ _ _ (c .before .before .before .before .before .before .before .before .before .run .ensures)) (simp length-set (h .1)), omega (arith, h .2, c .before .before .before .before .before .before .before .before .before .before .before .before .before .pre .2))
 
 grow-pentagon-requires : tie.Need-grow-pentagon-requires
 grow-pentagon-requires c κs =
     let s = c .before .before .before .before .before .before .before .before .before .before .before .before .before .before .before .before .before in
     let h = three (c .before .before .before .before .before) in
     let f = numberAt (s .args .base) (s .args .unit) true (s .args .m) in
-    let e = filled.pentagon-90 (s .args .base) (s .args .unit) (s .args .m) (s .args .buf .now) _ _ _ (h .0) (omega (arith, h .1, s .pre .3)) (c .before .before .before .before .before .before .before .before .before .before .before .before .before .run .ensures) (c .before .before .before .before .before .before .before .before .runs .ensures) (c .before .before .before .runs2 .ensures) in
-    (h .0, s .pre .0, s .pre .1, s .pre .2, rw (long-as f (s .args .buf .now) _ 90 e (omega (arith, h .1, s .pre .3))) (s .pre .3), again f (s .args .buf .now) _ 90 e)
+    let e = filled.pentagon-90 (s .args .base) (s .args .unit) (s .args .m) (s .args .buf .now) _ _ _ (h .0) (h .1) (c .before .before .before .before .before .before .before .before .before .before .before .before .before .run .ensures) (c .before .before .before .before .before .before .before .before .runs .ensures) (c .before .before .before .runs2 .ensures) in
+    (h .0, s .pre .0, s .pre .1, s .pre .2, rw (long-as f (s .args .buf .now) _ 90 e (h .1)) (s .pre .3), again f (s .args .buf .now) _ 90 e)
 
 returns-4 : tie.Need-returns-4
 returns-4 c =
     let s = c .before .before .before .before .before .before .before .before .before .before .before .before .before .before .before .before .before .before .before .before in
     let h = three (c .before .before .before .before .before .before .before .before) in
-    let e = filled.pentagon-90 (s .args .base) (s .args .unit) (s .args .m) (s .args .buf .now) _ _ _ (h .0) (omega (arith, h .1, s .pre .3)) (c .before .before .before .before .before .before .before .before .before .before .before .before .before .before .before .before .run .ensures) (c .before .before .before .before .before .before .before .before .before .before .before .runs .ensures) (c .before .before .before .before .before .before .runs2 .ensures) in
-    then (numberAt (s .args .base) (s .args .unit) true (s .args .m)) (s .args .buf .now) _ 90 e _ (count true (s .args .m)) (h .1) (c .before .before .grow-pentagon .ensures)
+    let e = filled.pentagon-90 (s .args .base) (s .args .unit) (s .args .m) (s .args .buf .now) _ _ _ (h .0) (h .1) (c .before .before .before .before .before .before .before .before .before .before .before .before .before .before .before .before .run .ensures) (c .before .before .before .before .before .before .before .before .before .before .before .runs .ensures) (c .before .before .before .before .before .before .runs2 .ensures) in
+    then (numberAt (s .args .base) (s .args .unit) true (s .args .m)) (s .args .buf .now) _ 90 e _ (count true (s .args .m)) (h .3) (c .before .before .grow-pentagon .ensures)
 
 same-length-4 : tie.Need-same-length-4
 same-length-4 c = let s = c .before .before .before .before .before .before .before .before .before .before .before .before .before .before .before .before .before .before .before .before in long-as (numberAt (s .args .base) (s .args .unit) true (s .args .m)) (s .args .buf .now) _ (count true (s .args .m)) (returns-4 c) (s .pre .3)
