@@ -1,30 +1,25 @@
 use borrow.Author.Needs.{needs}
+use mathlib.Core.Path.{ap, _∙_}
+use Rattle.rivetgnome.specs.Exports.{numberOut}
 use Rattle.rivetgnome.proofs.blocks.rg_check_block.Statement.{statement}
 use Rattle.rivetgnome.proofs.blocks.rg_check_block.Tie as tie
-use Rattle.rivetgnome.proofs.blocks.rg_check_block.Reads as reads
-use Rattle.rivetgnome.proofs.blocks.rg_check_block.Lts as lts
-use Rattle.hex.proofs.check_block.Reads as check-block-reads
-use Rattle.rivetgnome.proofs.answers.number_out.Reads as number-out-reads
 
--- src/blocks.rt:17:16
 check-block-requires : tie.Need-check-block-requires
 check-block-requires c κs = search needs
 
--- src/blocks.rt:17:5
 number-out-requires : tie.Need-number-out-requires
 number-out-requires c κs = search needs
 
--- src/blocks.rt:9:1
 same-length : tie.Need-same-length
 same-length c = search needs
 
--- src/blocks.rt:9:1
 same-length-2 : tie.Need-same-length-2
 same-length-2 c = search needs
 
--- src/blocks.rt:9:1
 returns : tie.Need-returns
-returns c = ?
+returns c =
+    let b = c .before .before .before .before .before .check-block .ensures in
+    (c .number-out .ensures ∙ ap numberOut (b .0), b .1, b .2)
 
 pub rg-check-block-spec : {M : Type 1} → statement M
 rg-check-block-spec =
