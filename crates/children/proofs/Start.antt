@@ -42,6 +42,12 @@ module _ (n t : ℕ) (h64 : n < 2 ^ 64) (v : Valid n) (lo : resOf n ≤ t) (hi :
   pub some-child : 0 < countOf n t
   some-child = count-pos f m
 
+  pub unit-room : 8 ^ (15 - t) * 8 ^ m ≤ 2 ^ 45
+  unit-room =
+      let q : 15 - t + m ≤ 15 = omega arith in
+      let e : 8 ^ (15 - t + m) ≤ 8 ^ 15 = pow-le-pow-right (omega arith) q in
+      rw (pow-add 8 (15 - t) m) at e
+
   module _ (p : ℕ) (hp : p < countOf n t) where
     abbrev ds : List ℕ
     ds = below f m p ++ used n (resOf n)
