@@ -18,8 +18,9 @@ use Rattle.children.specs.Positions.{listing}
 use Rattle.children.proofs.Whole.{whole, length-listing}
 use Rattle.grid.specs.Walks.{Moved, walkedOf, carryOf}
 use Rattle.grid.proofs.Walks.{walk-moved, walk-only}
-use Rattle.hex.specs.Cells.{resolutionRule, finerRules, roomRule, listOf}
-use Rattle.hex.specs.Steps.{onwardRule, onwardRules, walkOf}
+use Rattle.entry.specs.Rules.{resolutionRule, onwardRule}
+use Rattle.cell_entries.specs.Cells.{finerRules, roomRule, listOf}
+use Rattle.step_entries.specs.Steps.{onwardRules, walkOf}
 
 pub record Listed (n t k room : ℕ) : Type 0 where
   pub meaning : Listing n t (listing n t)

@@ -8,8 +8,8 @@ use Rattle.children.specs.Positions.{listing}
 use Rattle.plane.specs.Directions.{vec}
 use Rattle.plane.specs.declared.ijk.IJK.{IJK}
 use Rattle.grid.specs.Steps.{inside, leaves}
-use Rattle.hex.specs.Cells.{validOf, countOf, listOf}
-use Rattle.hex.specs.Steps.{ReadsBack, stepOf}
+use Rattle.cell_entries.specs.Cells.{validOf, countOf, listOf}
+use Rattle.step_entries.specs.Steps.{ReadsBack, stepOf}
 
 -- a request's outcome, and what the document says it is; of reading back, what the document says its outcome is
 infix 20 _gives_

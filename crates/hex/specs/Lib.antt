@@ -1,6 +1,1 @@
-pub mod Answers
-pub mod Cells
-pub mod Blocks
-pub mod Points
-pub mod Steps
 pub mod Examples

@@ -6,9 +6,8 @@ use Rattle.index.specs.Refusals.{Outcome, answered, refused, judged}
 use Rattle.plane.specs.declared.ijk.IJK.{IJK}
 use Rattle.grid.specs.Centres.{Reads}
 use Rattle.grid.proofs.Strings.{one-reading}
-use Rattle.hex.specs.Cells.{resolutionRule}
-use Rattle.hex.specs.Points.{rangeRule}
-use Rattle.hex.specs.Steps.{Under}
+use Rattle.entry.specs.Rules.{resolutionRule, rangeRule}
+use Rattle.step_entries.specs.Steps.{Under}
 use Rattle.rivetgnome.specs.Exports.{numberOut}
 use Rattle.rivetgnome.specs.Steps.{ReadsBackOut}
 use Rattle.rivetgnome.specs.declared.answers.RgNumber.{RgNumber}

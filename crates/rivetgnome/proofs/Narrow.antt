@@ -17,7 +17,8 @@ use Rattle.grid.specs.Steps as steps
 use Rattle.grid.proofs.Walks.{walk-moved}
 use Rattle.grid.proofs.Inside.{Case, left, stayed, deleted, ccw, cw, cases, within}
 use Rattle.grid.proofs.Inside as inner
-use Rattle.hex.specs.Steps.{onwardRule, onwardRules, after, stepOf}
+use Rattle.entry.specs.Rules.{onwardRule}
+use Rattle.step_entries.specs.Steps.{onwardRules, after, stepOf}
 
 below : (d : ℕ) → eqb d 0 || ltb 6 d ≡ false → d < 7
 below d e = go (eqb d 0) (ltb 6 d) refl e

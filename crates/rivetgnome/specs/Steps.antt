@@ -4,7 +4,7 @@ use Prim.Native.Nat.{ℕ}
 use Rattle.index.specs.Refusals.{Outcome, answered, refused}
 use Rattle.plane.specs.declared.ijk.IJK.{IJK}
 use Rattle.grid.specs.Steps.{Answer, inside, leaves}
-use Rattle.hex.specs.Steps.{ReadsBack}
+use Rattle.step_entries.specs.Steps.{ReadsBack}
 use Rattle.rivetgnome.specs.Exports.{numberOut}
 use Rattle.rivetgnome.specs.declared.answers.RgNumber.{RgNumber}
 use Rattle.rivetgnome.specs.declared.steps.RgWalked.{RgWalked}

@@ -1,6 +1,6 @@
 // The structs that exports hand out, each made of what an entry answered.
 ghost use mathlib.Core.Path.{_≡_};
-ghost use Rattle.hex.specs.Answers.{toldNumber, toldTruth, toldPoint, toldPair};
+ghost use Rattle.entry.specs.Answers.{toldNumber, toldTruth, toldPoint, toldPair};
 ghost use Rattle.rivetgnome.specs.Exports.{numberOut, truthOut, pointOut, pairOut};
 use hex::Number;
 use hex::Pair;

@@ -1,7 +1,8 @@
 // Exports over a block of numbers.
 ghost use mathlib.Core.Path.{_≡_};
-ghost use Rattle.hex.specs.Blocks.{keptOf, blockOf, valuesAfter, refusalsAfter};
-ghost use Rattle.hex.specs.Cells.{positionOf, ancestorOf};
+ghost use Rattle.index.specs.Check.{checkOf};
+ghost use Rattle.block_entries.specs.Blocks.{blockOf, valuesAfter, refusalsAfter};
+ghost use Rattle.cell_entries.specs.Cells.{positionOf, ancestorOf};
 ghost use Rattle.rivetgnome.specs.Exports.{numberOut};
 use crate::answers::RgNumber;
 use crate::answers::number_out;
@@ -12,7 +13,7 @@ pub extern "C" fn rg_check_block(
     values: &mut [u64],
     refusals: &mut [u16],
 ) -> RgNumber
-    ensures { λ r. ⌜ (r ≡ numberOut (blockOf (now (cells .entry)) (now (values .entry)) (now (refusals .entry)))) × (now (values .exit) ≡ valuesAfter keptOf (now (cells .entry)) (now (values .entry)) (now (refusals .entry))) × (now (refusals .exit) ≡ refusalsAfter keptOf (now (cells .entry)) (now (values .entry)) (now (refusals .entry))) ⌝ }
+    ensures { λ r. ⌜ (r ≡ numberOut (blockOf (now (cells .entry)) (now (values .entry)) (now (refusals .entry)))) × (now (values .exit) ≡ valuesAfter checkOf (now (cells .entry)) (now (values .entry)) (now (refusals .entry))) × (now (refusals .exit) ≡ refusalsAfter checkOf (now (cells .entry)) (now (values .entry)) (now (refusals .entry))) ⌝ }
 {
     number_out(hex::check_block(cells, values, refusals))
 }

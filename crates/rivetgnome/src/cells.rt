@@ -4,7 +4,7 @@ ghost use Prim.Native.Nat.{_+_};
 ghost use lib.ListN.{length};
 ghost use Rattle.index.specs.Layout.{resOf};
 ghost use Rattle.index.specs.Refusals.{numberOf};
-ghost use Rattle.hex.specs.Cells.{validOf, countOf, listOf, listShortOf, afterwards, childAtOf, positionOf, ancestorOf};
+ghost use Rattle.cell_entries.specs.Cells.{validOf, countOf, listOf, listShortOf, afterwards, childAtOf, positionOf, ancestorOf};
 ghost use Rattle.rivetgnome.specs.Exports.{numberOut};
 use crate::answers::RgNumber;
 use crate::answers::number_out;

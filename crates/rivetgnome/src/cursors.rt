@@ -1,7 +1,7 @@
 // Exports of the cursor: five words of 64 bits, own resolution, target, number, skip in two's complement, left.
 ghost use mathlib.Core.Path.{_≡_};
 ghost use Rattle.index.specs.Refusals.{numberOf};
-ghost use Rattle.hex.specs.Cells.{cursorOf};
+ghost use Rattle.cell_entries.specs.Cells.{cursorOf};
 ghost use Rattle.rivetgnome.specs.Exports.{numberOut};
 ghost use Rattle.rivetgnome.specs.CursorWords.{skipWord, wordsOf, skipIn, toldSkip, cursorIn, toldRead, cursorOfWords, startedWords, nextNumber, nextWords};
 use crate::answers::RgNumber;

@@ -3,7 +3,7 @@ ghost use mathlib.Core.Path.{_≡_};
 ghost use mathlib.Core.Bool.{true, false};
 ghost use Rattle.plane.specs.Directions.{triple};
 ghost use Rattle.plane.specs.Points.{pair};
-ghost use Rattle.hex.specs.Points.{unitOf, directionTurnOf, normaliseOf, neighbourOf, sameOf, distanceOf, toIjOf, fromIjOf, down7Of, down3Of, pointTurnOf, up7Of, directionOf};
+ghost use Rattle.point_entries.specs.Points.{unitOf, directionTurnOf, normaliseOf, neighbourOf, sameOf, distanceOf, toIjOf, fromIjOf, down7Of, down3Of, pointTurnOf, up7Of, directionOf};
 ghost use Rattle.rivetgnome.specs.Exports.{numberOut, truthOut, pointOut, pairOut};
 use crate::answers::RgNumber;
 use crate::answers::RgPair;

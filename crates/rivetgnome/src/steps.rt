@@ -1,7 +1,7 @@
 // Exports on turns of cells, centres, the walk and the step.
 ghost use mathlib.Core.Path.{_≡_};
 ghost use mathlib.Core.Bool.{true, false};
-ghost use Rattle.hex.specs.Steps.{turnOf, pentagonTurnOf, centreOf, walkOf, stepOf};
+ghost use Rattle.step_entries.specs.Steps.{turnOf, pentagonTurnOf, centreOf, walkOf, stepOf};
 ghost use Rattle.rivetgnome.specs.Exports.{numberOut, pointOut};
 ghost use Rattle.rivetgnome.specs.Steps.{ReadsBackOut, walkedOut, steppedOut};
 ghost use Rattle.plane.specs.Directions.{triple};

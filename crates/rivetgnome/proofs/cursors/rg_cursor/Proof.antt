@@ -8,9 +8,9 @@ use denote.Ref.{now}
 use types.Run
 use Rattle.index.specs.Refusals.{Outcome, numberOf}
 use Rattle.children.specs.declared.children.Cursor.{Cursor}
-use Rattle.hex.specs.Answers.{toldStarted}
-use Rattle.hex.specs.declared.answers.Started.{Started}
-use Rattle.hex.proofs.answers.Started as started-type
+use Rattle.entry.specs.Answers.{toldStarted}
+use Rattle.entry.specs.declared.answers.Started.{Started}
+use Rattle.entry.proofs.answers.Started as started-type
 use Rattle.rivetgnome.specs.CursorWords.{startedWords}
 use Rattle.rivetgnome.proofs.cursors.rg_cursor.Statement.{statement}
 use Rattle.rivetgnome.proofs.cursors.rg_cursor.Tie as tie

@@ -1,6 +1,6 @@
 use borrow.Author.Needs.{needs}
 use mathlib.Core.Path.{ap, _∙_}
-use Rattle.hex.specs.Points.{directionOf}
+use Rattle.point_entries.specs.Points.{directionOf}
 use Rattle.rivetgnome.specs.Exports.{numberOut}
 use Rattle.rivetgnome.proofs.Fields.{point-read}
 use Rattle.rivetgnome.proofs.points.rg_direction_of.Statement.{statement}

@@ -1,6 +1,6 @@
 use borrow.Author.Needs.{needs}
 use mathlib.Core.Path.{ap, _∙_}
-use Rattle.hex.specs.Points.{distanceOf}
+use Rattle.point_entries.specs.Points.{distanceOf}
 use Rattle.rivetgnome.specs.Exports.{numberOut}
 use Rattle.rivetgnome.proofs.Fields.{two-read}
 use Rattle.rivetgnome.proofs.points.rg_distance.Statement.{statement}

@@ -1,6 +1,6 @@
 use borrow.Author.Needs.{needs}
 use mathlib.Core.Path.{ap, _∙_}
-use Rattle.hex.specs.Points.{fromIjOf}
+use Rattle.point_entries.specs.Points.{fromIjOf}
 use Rattle.rivetgnome.specs.Exports.{pointOut}
 use Rattle.rivetgnome.proofs.Fields.{pair-read}
 use Rattle.rivetgnome.proofs.points.rg_from_ij.Statement.{statement}

@@ -1,7 +1,7 @@
 use borrow.Author.Needs.{needs}
 use mathlib.Core.Path.{ap, _∙_}
 use Rattle.plane.specs.declared.ijk.IJK.{IJK}
-use Rattle.hex.specs.Points.{neighbourOf}
+use Rattle.point_entries.specs.Points.{neighbourOf}
 use Rattle.rivetgnome.specs.Exports.{pointOut}
 use Rattle.rivetgnome.proofs.Fields.{point-read}
 use Rattle.rivetgnome.proofs.points.rg_neighbour.Statement.{statement}

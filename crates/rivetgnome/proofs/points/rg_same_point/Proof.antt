@@ -1,6 +1,6 @@
 use borrow.Author.Needs.{needs}
 use mathlib.Core.Path.{ap, _∙_}
-use Rattle.hex.specs.Points.{sameOf}
+use Rattle.point_entries.specs.Points.{sameOf}
 use Rattle.rivetgnome.specs.Exports.{truthOut}
 use Rattle.rivetgnome.proofs.Fields.{two-read}
 use Rattle.rivetgnome.proofs.points.rg_same_point.Statement.{statement}

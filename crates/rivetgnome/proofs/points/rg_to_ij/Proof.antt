@@ -1,6 +1,6 @@
 use borrow.Author.Needs.{needs}
 use mathlib.Core.Path.{ap, _∙_}
-use Rattle.hex.specs.Points.{toIjOf}
+use Rattle.point_entries.specs.Points.{toIjOf}
 use Rattle.rivetgnome.specs.Exports.{pairOut}
 use Rattle.rivetgnome.proofs.Fields.{point-read}
 use Rattle.rivetgnome.proofs.points.rg_to_ij.Statement.{statement}

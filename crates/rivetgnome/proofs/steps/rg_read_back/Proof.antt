@@ -1,8 +1,8 @@
 use borrow.Author.Needs.{needs}
 use mathlib.Core.Path.{ap, subst}
 use Rattle.plane.specs.declared.ijk.IJK.{IJK}
-use Rattle.hex.specs.Answers.{toldNumber}
-use Rattle.hex.specs.Steps.{ReadsBack}
+use Rattle.entry.specs.Answers.{toldNumber}
+use Rattle.step_entries.specs.Steps.{ReadsBack}
 use Rattle.rivetgnome.proofs.Fields.{point-read}
 use Rattle.rivetgnome.proofs.steps.rg_read_back.Statement.{statement}
 use Rattle.rivetgnome.proofs.steps.rg_read_back.Tie as tie

@@ -4,8 +4,8 @@ use native.Mathlib.Omega.{arith}
 use Prim.Native.Nat.{ℕ}
 use Rattle.index.specs.Refusals.{answered, refused}
 use Rattle.grid.specs.Steps.{inside, leaves}
-use Rattle.hex.specs.Answers.{toldStepped}
-use Rattle.hex.specs.Steps.{stepOf}
+use Rattle.entry.specs.Answers.{toldStepped}
+use Rattle.step_entries.specs.Steps.{stepOf}
 use Rattle.rivetgnome.specs.Steps.{steppedOut}
 use Rattle.rivetgnome.proofs.Narrow.{turn-small, way-small}
 use Rattle.rivetgnome.proofs.steps.rg_step.Statement.{statement}

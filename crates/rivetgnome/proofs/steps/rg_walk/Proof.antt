@@ -2,7 +2,7 @@ use borrow.Author.Needs.{needs}
 use mathlib.Core.Path.{sym, ap, _∙_}
 use Prim.Native.Nat.{ℕ}
 use Rattle.index.specs.Refusals.{refused}
-use Rattle.hex.specs.Answers.{toldWalked}
+use Rattle.entry.specs.Answers.{toldWalked}
 use Rattle.rivetgnome.specs.Steps.{walkedOut}
 use Rattle.rivetgnome.proofs.steps.rg_walk.Statement.{statement}
 use Rattle.rivetgnome.proofs.steps.rg_walk.Tie as tie

@@ -1,0 +1,2 @@
+pub mod Finers
+pub mod Rooms

@@ -1,0 +1,15 @@
+// Entries that take a cell: the check, its descendants and its ancestors.
+mod entries;
+mod finer;
+
+pub use entries::ancestor;
+// No entry: it takes a check, and crosses our own border only.
+pub use entries::below;
+pub use entries::check;
+pub use entries::child_at;
+pub use entries::count;
+pub use entries::cursor;
+pub use entries::list;
+pub use entries::list_short;
+pub use entries::next;
+pub use entries::position;
