@@ -17,7 +17,7 @@ pub(crate) const SEVENS: u64 = 0o777777777777777;
 // The bits above those of the digits.
 const PREFIX_LENGTH: u64 = 19;
 
-// The one or the other, without a branch.
+// The one or the other, by a conditional move where an `if` in the caller would be a branch.
 pub(crate) fn sel(t: bool, a: u64, b: u64) -> u64
     ensures { λ r. ⌜ r ≡ cond t a b ⌝ }
 {

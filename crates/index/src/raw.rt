@@ -35,8 +35,8 @@ fn unused(r: Resolution) -> u64
     ONES >> (3 * r.0)
 }
 
-// The refusal's number or 0, from the last test to the first. Of marks that are not above `u` each used digit is below 7, and where they are `u` itself
-// the unused digits are 7; then a first digit 1 has its top bit where the zeros above it are divisible by 3.
+// The refusal's number or 0, from the last test to the first, so that none is a branch. A used 7 makes the marks greater than `u`; else an unused digit
+// that is not 7 makes them less; and where they are equal, the zeros above the first digit are divisible by 3 exactly if that digit is 1.
 fn refusal_number(n: u64) -> u64
     ensures { λ k. ⌜ (k ≤ 7) × (checkOf n ≡ cond (eqb k 0) (answered n) (refused k)) ⌝ }
 {
