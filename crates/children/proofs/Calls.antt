@@ -26,7 +26,7 @@ use Rattle.children.proofs.Start.{child-res}
 use Rattle.children.proofs.Exact.{complete}
 use Rattle.children.proofs.Ancestors.{and-parts, ancestor-above}
 use Rattle.children.proofs.Moves as moves
-use Rattle.children.proofs.Walks.{skip-fits}
+use Rattle.children.proofs.Moves.{skip-fits}
 use Rattle.children.proofs.Stands.{same-cursor, cursor-at, cursor-end}
 use Rattle.children.proofs.Ancestors.{own-is, owner-fits, owner-valid}
 

@@ -25,7 +25,7 @@ use Rattle.children.specs.declared.children.Cursor.{Cursor}
 use Rattle.children.proofs.Start.{pos-fits}
 use Rattle.children.proofs.Ancestors.{own-is, owner-fits, owner-valid, owner-low, among-children}
 use Rattle.children.proofs.Carry.{lead-le}
-use Rattle.children.proofs.Walks.{skip-fits}
+use Rattle.children.proofs.Moves.{skip-fits}
 
 -- a cell y and its ancestor at `own`
 module _ (y own : ℕ) (h64 : y < 2 ^ 64) (v : Valid y) (l : own ≤ resOf y) where

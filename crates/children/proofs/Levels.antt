@@ -14,7 +14,7 @@ use Rattle.children.specs.Positions.{below, tab}
 use Rattle.children.specs.Copies.{copies, numberAt}
 use Rattle.children.proofs.Counts.{count-suc, count-small, sevens-pos}
 use Rattle.children.proofs.Copies.{copies-length}
-use Rattle.children.proofs.Strides.{origin, nth, blocked, spread, hexagon-block, pentagon-block, pentagon-over, number-fits}
+use Rattle.children.proofs.Strides.{origin, blocked, spread, hexagon-block, pentagon-block, pentagon-over, number-fits}
 
 -- l is the buffer l₀ with all written to the end of the first block of the level j
 pub record Level (t : Bool) (b u m : ℕ) (l₀ l : List ℕ) (at size step j : ℕ) : Type 0 where

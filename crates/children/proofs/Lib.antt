@@ -11,7 +11,6 @@ pub mod Carry
 pub mod Odometer
 pub mod Rounds
 pub mod Moves
-pub mod Walks
 pub mod Stands
 pub mod Judging
 pub mod Calls

@@ -8,6 +8,9 @@ use native.Mathlib.Numerals.{add-one}
 use native.Mathlib.Omega.{arith}
 use lib.IntN.{ℤ, pos, negsuc}
 use lib.ListN.{length, getD, drop}
+use lib.Signed.{mag}
+use mir.Syntax.{w32}
+use mir.Val.{SFits}
 use Rattle.index.specs.Layout.{digit, resOf, baseOf, firstOf, isPentagonal, Valid}
 use Rattle.index.specs.Ancestor.{ancestorOf}
 use Rattle.index.specs.View.{used, octal, first}
@@ -22,7 +25,7 @@ use Rattle.children.proofs.Below.{length-below, digits-below, first-zer
 use Rattle.children.proofs.Start.{child-fits, child-valid, child-res, child-used, child-sum, some-child}
 use Rattle.children.proofs.Exact.{and-zero, position-child}
 use Rattle.children.proofs.Ancestors.{own-is, owner-fits, owner-valid, owner-low, among-children, ancestor-child}
-use Rattle.children.proofs.Carry.{mark, step, lead-none, lead-append}
+use Rattle.children.proofs.Carry.{mark, step, lead-le, lead-none, lead-append}
 
 -- the used digits, read off the number by division
 shift-octs : (n k : ℕ) → k ≤ 15 → used n k ≡ octs k (n / 2 ^ (3 * (15 - k)))
@@ -153,3 +156,11 @@ module _ (n t : ℕ) (h64 : n < 2 ^ 64) (v : Valid n) (lo : resOf n ≤ t) (hi :
       ∙ ap (λ (k : ℕ). childAt n k (positionOf (ancestorOf y (resOf n)) y + 1)) fine
       ∙ ap (λ (j : ℕ). childAt n t (j + 1)) spot ∙ ap (childAt n t) (add-one p) in
       (e, f .skip ∙ ap (λ (m : ℕ). skipOf m x) owner ∙ ap (skipOf n) e)
+
+-- a skip is -1 or at most the resolution of the number
+pub skip-fits : (n y : ℕ) → SFits w32 (skipOf n y)
+skip-fits n y = record { sfits = go (pentagon n) (resOf y) (lead-le (used y (resOf y))) (omega arith) }
+  where
+    go : (b : Bool) (k : ℕ) → lead (used y k) ≤ length (used y k) → k ≤ 15 → mag (cond b (pos (lead (used y k))) (negsuc 0)) < 2 ^ 31
+    go true k l h = let e = length-used y k in omega arith
+    go false k l h = omega arith

@@ -1,5 +1,5 @@
 -- The numbers below a cell by blocks of 7 ^ i: what a position has over the same place of an earlier block. Assumes nothing.
-use mathlib.Core.Path.{_≡_, refl, sym, ap, _∙_, subst}
+use mathlib.Core.Path.{_≡_, sym, ap, _∙_, subst}
 use mathlib.Core.Bool.{Bool, true, false}
 use mathlib.Core.List.{List, _++_}
 use Prim.Native.Nat.{ℕ, zero, suc, _+_, _-_, _*_, _/_, _%_, _^_, _≤_, _<_}
@@ -11,7 +11,7 @@ use Rattle.index.proofs.View.{octal-lt}
 use Rattle.children.specs.Descendants.{count}
 use Rattle.children.specs.Positions.{bump, below, tab}
 use Rattle.children.specs.Copies.{copies, numberAt}
-use Rattle.children.proofs.Counts.{count-suc, sevens-pos}
+use Rattle.children.proofs.Counts.{count-suc}
 use Rattle.children.proofs.Below.{length-below, digits-below, octal-zero}
 use Rattle.children.proofs.Copies.{copied}
 

@@ -1,4 +1,4 @@
-// Port of index/iterator/children.rs: the listing and the cursor go from child to child on the packed number.
+// Port of index/iterator/children.rs: the cursor goes from child to child on the packed number; the listing is by blocks.
 ghost use mathlib.Core.Path.{_≡_};
 ghost use mathlib.Core.Bool.{cond, _&&_};
 ghost use mathlib.Core.List.{_++_};

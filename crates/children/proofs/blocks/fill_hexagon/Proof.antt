@@ -1,10 +1,10 @@
 -- `children::blocks::fill_hexagon` meets its contract, by the laws of `Filled`. Assumes nothing.
 use borrow.Author.Needs.{needs}
-use mathlib.Core.Path.{_≡_, refl, sym, ap, _∙_}
-use mathlib.Core.Bool.{true, false}
-use Prim.Native.Nat.{ℕ, _+_, _*_, _≤_, _<_, _^_}
+use mathlib.Core.Path.{_≡_, sym, ap}
+use mathlib.Core.Bool.{false}
+use Prim.Native.Nat.{_≤_}
 use native.Mathlib.Omega.{arith}
-use lib.ListN.{length, length-set}
+use lib.ListN.{length}
 use Rattle.children.specs.Descendants.{count}
 use Rattle.children.specs.Copies.{numberAt}
 use Rattle.children.proofs.Copies.{ramp-length, stairs-length, again, then}

@@ -1,12 +1,10 @@
 -- `children::blocks::grow_hexagon` meets its contract, by the laws of `Levels`. The loop's invariant is `Level`. Assumes nothing.
 use borrow.Author.Needs.{needs}
-use mathlib.Core.Path.{_≡_, refl}
+use mathlib.Core.Path.{refl}
 use mathlib.Core.Bool.{false}
-use Prim.Native.Nat.{ℕ, _+_, _-_, _*_, _≤_, _<_, _^_}
-use native.Mathlib.Nat.{mul-le-mul-left, pow-le-pow-right}
+use Prim.Native.Nat.{_-_, _*_, _≤_, _^_}
 use native.Mathlib.Omega.{arith}
 use lib.ListN.{length}
-use Rattle.children.specs.Descendants.{count}
 use Rattle.children.proofs.Levels as levels
 use Rattle.children.proofs.Levels.{Level}
 use Rattle.children.proofs.blocks.grow_hexagon.Statement.{statement}

@@ -12,8 +12,7 @@ use Rattle.children.specs.Descendants.{pentagon}
 use Rattle.children.specs.Positions.{childAt}
 use Rattle.children.specs.Skips.{skipOf}
 use Rattle.children.proofs.Start.{some-child}
-use Rattle.children.proofs.Moves.{first-skip}
-use Rattle.children.proofs.Walks.{skip-fits}
+use Rattle.children.proofs.Moves.{first-skip, skip-fits}
 use Rattle.children.proofs.Stands.{same-cursor, cursor-at}
 use Rattle.children.proofs.children.fresh.Statement.{statement}
 use Rattle.children.proofs.children.fresh.Tie as tie
