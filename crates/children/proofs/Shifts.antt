@@ -94,7 +94,7 @@ shifted (suc m) (suc p) (suc (suc i)) h =
     rw (a, b, shifted m (suc (suc p) / 7) (suc i) (omega arith, omega arith))
 
 -- how many digits a word has, by its leading zeros
-digits-long : (v l : ℕ) → v < 2 ^ 64 → 8 ^ l ≤ v → v < 8 ^ suc l → (66 - leadingZeros 64 v) / 3 ≡ suc l
+pub digits-long : (v l : ℕ) → v < 2 ^ 64 → 8 ^ l ≤ v → v < 8 ^ suc l → (66 - leadingZeros 64 v) / 3 ≡ suc l
 digits-long v l h a b =
     let w = leading-length 64 v h in
     let n : ℕ = w .0 in
