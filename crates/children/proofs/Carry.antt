@@ -4,15 +4,13 @@ use mathlib.Core.Bool.{Bool, true, false, cond, _&&_}
 use mathlib.Core.Logic.{⊎-elim, _⊎_}
 use mathlib.Core.List.{List, [], _∷_, _++_}
 use Prim.Native.Nat.{ℕ, zero, suc, _+_, _-_, _*_, _/_, _%_, _^_, _≤_, _<_}
-use native.Mathlib.Nat.{eq-or-lt-of-le, eq-zero-or-pos, add-suc, le-of-suc-le-suc, not-suc-le-zero}
+use native.Mathlib.Nat.{eq-or-lt-of-le, eq-zero-or-pos, add-suc}
 use native.Mathlib.Omega.{arith}
 use lib.Dec.{eqb, ltb}
 use lib.IntN.{ℤ, pos, negsuc, predℤ}
 use lib.ListN.{length, length-append}
 use borrow.Author.Tests.{lt-ltb, le-ltb, eq-eqb, ne-eqb}
-use Rattle.index.specs.Layout.{digit}
-use Rattle.index.specs.View.{used, octal, first}
-use Rattle.index.proofs.Runs.{length-used}
+use Rattle.index.specs.View.{octal, first}
 use Rattle.children.specs.Descendants.{count}
 use Rattle.children.specs.Positions.{below}
 use Rattle.children.specs.Skips.{lead, sameZ}
@@ -177,27 +175,3 @@ lead-append (x ∷ xs) ys z =
     pick : (t : Bool) → cond t (suc (length xs + length ys)) (length ys + lead xs) ≡ length ys + cond t (suc (length xs)) (lead xs)
     pick true = omega arith
     pick false = refl
-
--- the digits 1 to i are 0, and the next one is not
-pub lead-at : (n k i : ℕ) → i < k → first (used n i) ≡ 0 → (digit n (suc i) ≡ 0 → ⊥) → lead (used n k) ≡ i
-unfolding used
-lead-at n zero i h z d = absurd (not-suc-le-zero h)
-lead-at n (suc k) i h z d =
-    ⊎-elim
-    (λ (q : i ≡ k).
-    let z′ : first (used n k) ≡ 0 = subst (λ (j : ℕ). first (used n j) ≡ 0) q z in
-    let d′ : digit n (suc k) ≡ 0 → ⊥ = subst (λ (j : ℕ). digit n (suc j) ≡ 0 → ⊥) q d in
-    lead-cons (digit n (suc k)) (used n k) (first-cons (digit n (suc k)) (used n k) (⊎-elim (λ (e : digit n (suc k) ≡ 0). absurd (d′ e)) (λ g. g) (eq-zero-or-pos (digit n (suc k)))))
-    ∙ lead-none (used n k) z′ ∙ length-used n k ∙ sym q)
-    (λ (g : i < k).
-    let ih = lead-at n k i g z d in
-    let f : 0 < first (used n k) = ⊎-elim (λ (e : first (used n k) ≡ 0). absurd (omega (arith, lead-none (used n k) e, length-used n k))) (λ w. w) (eq-zero-or-pos (first (used n k))) in
-    lead-cons (digit n (suc k)) (used n k) (λ e. omega (arith, first-rest (digit n (suc k)) (used n k) f)) ∙ ih)
-    (eq-or-lt-of-le (le-of-suc-le-suc h))
-
-pub lead-all : (n k : ℕ) → first (used n k) ≡ 0 → lead (used n k) ≡ k
-lead-all n k z = lead-none (used n k) z ∙ length-used n k
-
-pub first-more : (n i : ℕ) → first (used n i) ≡ 0 → digit n (suc i) ≡ 0 → first (used n (suc i)) ≡ 0
-unfolding used first
-first-more n i z d = rw (z, d)

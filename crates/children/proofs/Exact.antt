@@ -66,7 +66,7 @@ module _ (n t : ℕ) (h64 : n < 2 ^ 64) (v : Valid n) (lo : resOf n ≤ t) (hi :
 
   -- they are those of a position
   pub digits-back : (y : ℕ) → Descendant n t y → let xs = seg y (resOf n) (t - resOf n) in
-      Digits xs × (below (pentagon n) (t - resOf n) (rank (pentagon n) xs) ≡ xs) × (rank (pentagon n) xs < countOf n t)
+      (below (pentagon n) (t - resOf n) (rank (pentagon n) xs) ≡ xs) × (rank (pentagon n) xs < countOf n t)
   digits-back y d =
       let k : ℕ = resOf n in
       let m : ℕ = t - k in
@@ -79,7 +79,6 @@ module _ (n t : ℕ) (h64 : n < 2 ^ 64) (v : Valid n) (lo : resOf n ≤ t) (hi :
       o .kept (ap isPentagonal (d .base) ∙ a .0) (ap first e ∙ first-append xs (used n k) ∙ rw (first-used n k, a .1) g) in
       let r = placed (pentagon n) xs s kept in
       let l = length-seg y k m in (
-        s,
         subst (λ (z : ℕ). below (pentagon n) z (rank (pentagon n) xs) ≡ xs) l (r .0),
         subst (λ (z : ℕ). rank (pentagon n) xs < count (pentagon n) z) l (r .1),
       )
@@ -89,7 +88,7 @@ module _ (n t : ℕ) (h64 : n < 2 ^ 64) (v : Valid n) (lo : resOf n ≤ t) (hi :
   unfolding childAt
   complete y d =
       let r = digits-back y d in
-      rw (d .fine) (r .2, rw (r .1, ← (d .base), ← (split y d)) (packed y (d .fits) (d .valid)))
+      rw (d .fine) (r .1, rw (r .0, ← (d .base), ← (split y d)) (packed y (d .fits) (d .valid)))
 
   -- position of the child at p is p
   pub position-child : (p : ℕ) → p < countOf n t → positionOf n (childAt n t p) ≡ p

@@ -24,3 +24,4 @@ pub mod Shifts
 pub mod Ranking
 pub mod Fields
 pub mod Eights
+pub mod Leads

@@ -46,7 +46,7 @@ module _ (n own m x u v : ℕ) (f : Bool) (h64 : n < 2 ^ 64) (ok : Valid n) (e :
       let a : ℕ = ancestorOf n own in
       let r = own-is n own h64 ok low in
       let d = digits-back a (resOf n) (owner-fits n own h64 ok low) (owner-valid n own h64 ok low) (owner-low n own h64 ok low) (omega arith) n (ancestor-above n own h64 ok low) in
-      moved (pentagon a) f n (resOf a) (resOf n - resOf a) own m ef r (omega arith) (d .1, d .2)
+      moved (pentagon a) f n (resOf a) (resOf n - resOf a) own m ef r (omega arith) d
 
   word : v ≡ octal xs
   unfolding run

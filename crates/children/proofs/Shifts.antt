@@ -3,7 +3,6 @@
 use mathlib.Core.Path.{_≡_, refl, sym, ap, _∙_}
 use mathlib.Core.Bool.{true, false}
 use mathlib.Core.Logic.{⊎-elim}
-use mathlib.Core.List.{_∷_}
 use Prim.Native.Nat.{ℕ, zero, suc, _+_, _-_, _*_, _/_, _%_, _^_, _≤_, _<_}
 use native.Mathlib.Nat.{pow-suc, pow-le-pow-right, eq-zero-or-pos}
 use native.Mathlib.Decide.{decLe}
@@ -19,7 +18,7 @@ use Rattle.children.proofs.Counts.{ones, sevens-six, ones-six, count-on
 use Rattle.children.proofs.Below.{length-below, digits-below, octal-zero}
 
 -- places past the digits of a position are 0
-pub octal-more : (m j p : ℕ) → p < 7 ^ m → octal (below false (m + j) p) ≡ octal (below false m p)
+octal-more : (m j p : ℕ) → p < 7 ^ m → octal (below false (m + j) p) ≡ octal (below false m p)
 unfolding octal below
 octal-more zero j p h =
     let z : p ≡ 0 = omega arith in
@@ -37,7 +36,7 @@ octal-sixteen m p g h =
     (omega arith, sym (octal-more m (16 - m) p h) ∙ ap (λ (k : ℕ). octal (below false k p)) e)
 
 -- a position's digits from the first that is not 0
-pub octal-least : (m l p : ℕ) → p < 7 ^ m → 7 ^ l ≤ p → 8 ^ l ≤ octal (below false m p)
+octal-least : (m l p : ℕ) → p < 7 ^ m → 7 ^ l ≤ p → 8 ^ l ≤ octal (below false m p)
 unfolding octal below
 octal-least zero l p h g = absurd (let z : ⊥ = omega (arith, sevens-pos l) in z)
 octal-least (suc m) zero p h g =
@@ -49,7 +48,7 @@ octal-least (suc m) (suc l) p h g =
     let i : 8 ^ l ≤ octal (below false m (p / 7)) = octal-least m l (p / 7) (omega (arith, pow-suc 7 m)) (omega (arith, pow-suc 7 l)) in
     omega (arith, pow-suc 8 l)
 
-pub octal-most : (m j p : ℕ) → j ≤ m → p < 7 ^ j → octal (below false m p) < 8 ^ j
+octal-most : (m j p : ℕ) → j ≤ m → p < 7 ^ j → octal (below false m p) < 8 ^ j
 octal-most m j p g h =
     let e : j + (m - j) ≡ m = omega arith in
     let a : octal (below false m p) ≡ octal (below false j p) = ap (λ (k : ℕ). octal (below false k p)) (sym e) ∙ octal-more j (m - j) p h in
@@ -95,7 +94,7 @@ shifted (suc m) (suc p) (suc (suc i)) h =
     rw (a, b, shifted m (suc (suc p) / 7) (suc i) (omega arith, omega arith))
 
 -- how many digits a word has, by its leading zeros
-digits-long : (v l : ℕ) → v < 2 ^ 64 → 8 ^ l ≤ v → v < 8 ^ suc l → (66 - leadingZeros 64 v) / 3 ≡ suc l
+pub digits-long : (v l : ℕ) → v < 2 ^ 64 → 8 ^ l ≤ v → v < 8 ^ suc l → (66 - leadingZeros 64 v) / 3 ≡ suc l
 digits-long v l h a b =
     let w = leading-length 64 v h in
     let n : ℕ = w .0 in

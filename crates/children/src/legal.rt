@@ -16,9 +16,9 @@ use index::Cell;
 use index::Checked;
 use index::check;
 use index::inside::ancestor;
-use index::inside::direction;
 use index::inside::is_pentagon;
 use index::inside::number_of;
+use index::inside::place;
 use index::inside::resolution;
 use index::inside::resolution_number;
 use index::inside::resolution_of;
@@ -28,14 +28,9 @@ fn leading(n: u64, k: u64) -> u64
     requires { ⌜ k ≤ 15 ⌝ }
     ensures { λ z. ⌜ z ≡ lead (used n k) ⌝ }
 {
-    let mut i = 0;
-    while i < k {
-        if direction(n, resolution(i + 1)) != 0 {
-            return i;
-        }
-        i += 1;
-    }
-    k
+    let v = (n >> (3 * (15 - k))) % place(resolution(15 - k));
+    let z = u64::leading_zeros(v) as u64;
+    k - (66 - z) / 3
 }
 
 fn is_same(a: i32, b: i32) -> bool

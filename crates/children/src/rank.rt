@@ -45,7 +45,7 @@ fn with_deleted(pent: bool, m: u64, p: u64) -> u64
 }
 
 // A position below a hexagon as sixteen digits with eight as their base: fields of eight, four and two digits are split, the upper half of
-// each being a quotient by 2401, 49 and 7.
+// each being a quotient by 2401, 49 and 7. Below 2401 (x * 1338) >> 16 is x / 49, below 49 (x * 37) >> 8 is x / 7.
 fn in_eights(p: u64) -> u64
     requires { ⌜ p < 7 ^ 16 ⌝ }
     ensures { λ r. ⌜ r ≡ octal (below false 16 p) ⌝ }

@@ -1,61 +1,74 @@
--- `children::legal::leading` meets its contract. The loop's invariant: the digits that were passed are 0. Assumes nothing.
+-- `children::legal::leading` meets its contract, by the law of `Leads`. Assumes nothing.
 use borrow.Author.Needs.{needs}
-use mathlib.Core.Path.{_≡_, refl, sym, ap, _∙_, subst}
-use Prim.Native.Nat.{ℕ, suc, _-_, _≤_}
-use native.Mathlib.Numerals.{add-one}
+use mathlib.Core.Path.{_≡_, refl}
+use Prim.Native.Nat.{ℕ, _-_, _*_, _/_, _%_, _^_, _≤_}
 use native.Mathlib.Omega.{arith}
-use Rattle.index.specs.Layout.{digit}
-use Rattle.index.specs.View.{used, first}
-use Rattle.children.proofs.Carry.{lead-at, lead-all, first-more}
+use lib.Count.{leadingZeros}
+use Rattle.index.specs.View.{used}
+use Rattle.index.proofs.Runs.{eights-pos}
+use Rattle.children.specs.Skips.{lead}
+use Rattle.children.proofs.Leads.{lead-zeros}
 use Rattle.children.proofs.legal.leading.Statement.{statement}
 use Rattle.children.proofs.legal.leading.Tie as tie
 
-abbrev Inv-loop : tie.InvT-loop
-Inv-loop n k i₀ i = (i ≤ k) × (first (used n i) ≡ 0)
+sub-v : tie.Need-sub-v
+sub-v c = search needs
 
-abbrev μ-loop : tie.MeasureT-loop
-μ-loop n k i₀ i = k - i
+mul-v : tie.Need-mul-v
+mul-v c = search needs
 
-loop-holds : tie.Need-loop-holds Inv-loop μ-loop
-unfolding used first
-loop-holds c = (omega arith, refl)
+shr-v : tie.Need-shr-v
+shr-v c = search needs
 
-add-resolution : tie.Need-add-resolution Inv-loop μ-loop
-add-resolution c = search needs
+sub-resolution : tie.Need-sub-resolution
+sub-resolution c = search needs
 
-resolution-requires : tie.Need-resolution-requires Inv-loop μ-loop
+resolution-requires : tie.Need-resolution-requires
 resolution-requires c κs = search needs
 
-direction-requires : tie.Need-direction-requires Inv-loop μ-loop
-direction-requires c κs = search needs
+place-requires : tie.Need-place-requires
+place-requires c κs = search needs
 
--- the digit that was read
-seen : (c : tie.After-direction Inv-loop μ-loop) → c .direction .result ≡ digit (c .before .before .before .before .args .n) (suc (c .before .before .before .loop .i))
-seen c = c .direction .ensures ∙ ap (digit (c .before .before .before .before .args .n)) (c .before .resolution .ensures ∙ add-one _)
+rem-v : tie.Need-rem-v
+rem-v c = omega (arith, c .place .ensures, eights-pos (15 - c .before .resolution .result .0))
 
-returns : tie.Need-returns Inv-loop μ-loop
-returns c =
-    let l = c .before .before .before .before in
-    sym (lead-at (l .before .args .n) (l .before .args .k) (l .loop .i) (c .before .before .before .loop-test .taken) (l .loop .inv .1) (λ e. c .if1 .taken (seen (c .before) ∙ e)))
+-- the word of the digits
+cut : (c : tie.After-place) → ℕ
+cut c = let a = c .before .before .args in a .n / 2 ^ (3 * (15 - a .k)) % c .place .result
 
-add-i : tie.Need-add-i Inv-loop μ-loop
-add-i c = search needs
+zeros : (c : tie.After-place) → let a = c .before .before .args in let z = leadingZeros 64 (cut c) in
+    (z ≤ 64) × ((66 - z) / 3 ≤ a .k) × (a .k - (66 - z) / 3 ≡ lead (used (a .n) (a .k)))
+unfolding cut
+zeros c = let s = c .before .before in lead-zeros (s .args .n) (s .args .k) _ _ (cut c) (s .pre) (c .before .resolution .ensures) (c .place .ensures) refl
 
-loop-less : tie.Need-loop-less Inv-loop μ-loop
-loop-less c = search needs
+cast-z : tie.Need-cast-z
+unfolding cut
+cast-z c = omega (arith, zeros c)
 
-loop-again : tie.Need-loop-again Inv-loop μ-loop
-loop-again c =
-    let l = c .before .before .before .before in
-    let n : ℕ = l .before .args .n in
-    (omega arith, subst (λ (j : ℕ). first (used n j) ≡ 0) (sym (add-one (l .loop .i))) (first-more n (l .loop .i) (l .loop .inv .1) (sym (seen (c .before)) ∙ c .if1 .left)))
+sub-result : tie.Need-sub-result
+unfolding cut
+sub-result c = omega (arith, zeros c)
 
-returns-2 : tie.Need-returns-2 Inv-loop μ-loop
-returns-2 c =
-    let e : c .before .loop .i ≡ c .before .before .args .k = omega arith in
-    sym (lead-all (c .before .before .args .n) (c .before .before .args .k) (subst (λ (j : ℕ). first (used (c .before .before .args .n) j) ≡ 0) e (c .before .loop .inv .1)))
+sub-result-2 : tie.Need-sub-result-2
+unfolding cut
+sub-result-2 c = zeros c .1
+
+returns : tie.Need-returns
+unfolding cut
+returns c = zeros c .2
 
 pub leading-spec : {M : Type 1} → statement M
 leading-spec =
     tie.close
-    (tie.spec Inv-loop μ-loop loop-holds add-resolution resolution-requires direction-requires returns add-i loop-less loop-again returns-2)
+    (tie.spec
+    sub-v
+    mul-v
+    shr-v
+    sub-resolution
+    resolution-requires
+    place-requires
+    rem-v
+    cast-z
+    sub-result
+    sub-result-2
+    returns)

@@ -1,6 +1,6 @@
 -- `children::rank::in_sevens` meets its contract, by the four steps of `Bases`. Assumes nothing.
 use borrow.Author.Needs.{needs}
-use mathlib.Core.Path.{_≡_, sym, ap, _∙_}
+use mathlib.Core.Path.{sym, ap, _∙_}
 use native.Mathlib.Omega.{arith}
 use Prim.Native.Nat.{ℕ, _-_, _*_, _/_, _^_}
 use lib.Bits.{bitAnd}
