@@ -162,16 +162,16 @@ rg_number rg_ancestor(uint64_t cell, uint32_t resolution);
 /* Which of the numbers are cells? The value of a cell is the cell itself, so `values` holds the cells and 0 in
  * place of what is none.
  */
-rg_number rg_check_block(const uint64_t *cells, size_t length, uint64_t *values, size_t values_length, uint16_t *refusals,
-                         size_t refusals_length);
+rg_number rg_check_block(const uint64_t *cells, size_t length, uint64_t *values, size_t values_length,
+                         uint16_t *refusals, size_t refusals_length);
 
 /* The ancestor of each cell at one resolution. A resolution above 15 is each cell's refusal, after its own. */
-rg_number rg_ancestor_block(const uint64_t *cells, size_t length, uint32_t resolution, uint64_t *values, size_t values_length,
-                            uint16_t *refusals, size_t refusals_length);
+rg_number rg_ancestor_block(const uint64_t *cells, size_t length, uint32_t resolution, uint64_t *values,
+                            size_t values_length, uint16_t *refusals, size_t refusals_length);
 
 /* The position of each of `seconds` under one cell. Where `first` is no cell its refusal is that of each. */
-rg_number rg_position_block(uint64_t first, const uint64_t *seconds, size_t length, uint64_t *values, size_t values_length,
-                            uint16_t *refusals, size_t refusals_length);
+rg_number rg_position_block(uint64_t first, const uint64_t *seconds, size_t length, uint64_t *values,
+                            size_t values_length, uint16_t *refusals, size_t refusals_length);
 
 /* A cursor: it stands before a descendant of a cell, or after the last. The words are there to be kept and
  * copied; rg_next looks at each of them whole, and refuses any cursor that rg_cursor and rg_next cannot make.

@@ -249,19 +249,23 @@ fn blocks(random: &mut Random, [cells, lent, lent_too]: &mut [Lent; 3]) -> Resul
         }
         for upper in [true, false] {
             let rubbish = random.next() << 32;
-            let (((a, kept_too), kept), same_cells) = cells.hand(upper, &block, &block, |cells| lent.hand(upper, &values, &after, |values| lent_too.hand(upper, &refusals, &after_too, |refusals| unsafe {
-                let cells = if n == 0 && upper { std::ptr::null_mut() } else { cells };
-                let values = if v == 0 && upper { std::ptr::null_mut() } else { values };
-                let refusals = if r == 0 && upper { std::ptr::null_mut() } else { refusals };
+            let null = |empty: bool| empty && upper;
+            let call = |cells: *mut u64, values: *mut u64, refusals: *mut u16| unsafe {
+                let cells = if null(n == 0) { std::ptr::null_mut() } else { cells };
+                let values = if null(v == 0) { std::ptr::null_mut() } else { values };
+                let refusals = if null(r == 0) { std::ptr::null_mut() } else { refusals };
                 match line {
                     "check" => c::rg_check_block(cells, n, values, v, refusals, r),
                     "ancestor" => c::rg_ancestor_block(cells, n, with & u64::from(u32::MAX) | rubbish, values, v, refusals, r),
                     _ => c::rg_position_block(with, cells, n, values, v, refusals, r),
                 }
-            })));
+            };
+            let (((a, kept_too), kept), same_cells) = cells.hand(upper, &block, &block, |cells| {
+                lent.hand(upper, &values, &after, |values| lent_too.hand(upper, &refusals, &after_too, |refusals| call(cells, values, refusals)))
+            });
             calls += 1;
             if !kept || !kept_too || !same_cells || !same(a.refusal, a.zero, [a.value, 0, 0], told) {
-                return Err(format!("{line} over {n} with {with:x}, lent {v} and {r}, upper {upper}: refusal {}, value {}, kept {kept} {kept_too} {same_cells}; the model {told:x?}", a.refusal, a.value));
+                return Err(format!("{line} over {n} with {with:x}, lent {v} and {r}, upper {upper}: refusal {}, value {}, kept {kept} {kept_too} {same_cells}; {told:x?}", a.refusal, a.value));
             }
         }
     }

@@ -71,7 +71,7 @@ fn one(over: &Over, block: &[u64], with: u64, v: usize, r: usize, tally: &mut Ta
     if (ours.refusal, ours.zero, ours.value) != right || after != wanted || after_too != wanted_too || unborne.is_some() {
         tally.unexplained(|| {
             let at = (0..v).find(|&at| after[at] != wanted[at]).or((0..r).find(|&at| after_too[at] != wanted_too[at]));
-            format!("{} over {} with {with:x}, room {v} and {r}: ours refusal {}, zero {}, value {}, expected {right:?}; first other element {at:?}; the Rust does not bear out {unborne:?}",
+            format!("{} over {} with {with:x}, room {v} and {r}: ours refusal {}, zero {}, value {}, expected {right:?}, first other element {at:?}, not as the Rust {unborne:?}",
                 over.name, block.len(), ours.refusal, ours.zero, ours.value)
         });
     }
