@@ -48,7 +48,7 @@ enum rg_refusal {
     RG_DELETED = 7,      /* cell: pentagon base cell, first used digit that is not 0 is 1 */
     RG_RESOLUTION = 8,   /* a resolution or length is above 15 */
     RG_ORDER = 9,        /* the wanted resolution lies on the wrong side of the cell's */
-    RG_NO_ROOM = 10,     /* the buffer is shorter than the listing */
+    RG_NO_ROOM = 10,     /* the buffer is shorter than the listing, or than the block handed in */
     RG_POSITION = 11,    /* no such position, or a cursor that this library did not make */
     RG_NOT_UNDER = 12,   /* the second cell does not lie under the first */
     RG_DIRECTION = 13,   /* a direction is above 6, or is 0 where only 1 to 6 will do */
@@ -143,6 +143,35 @@ rg_number rg_position(uint64_t first, uint64_t second);
  * Refused: RG_ORDER where `resolution` is finer than the cell's.
  */
 rg_number rg_ancestor(uint64_t cell, uint32_t resolution);
+
+/* Blocks.
+ *
+ * The three functions below answer for each element of a block of numbers what rg_check, rg_ancestor and
+ * rg_position answer for it alone. Element n of the block has values[n] and refusals[n]: the answer and 0
+ * (RG_ANSWERED), or 0 and its refusal. These are what is asked for, and not a refusal of the call, whose
+ * `value` is the number of elements handed in; elements of `values` and `refusals` beyond it stay as they
+ * were. No element has a bearing on another.
+ *
+ * Each of the three blocks is a pointer and a number of elements, any number; with 0 elements the pointer
+ * may be NULL. THE THREE BLOCKS MUST NOT OVERLAP, and nothing else reads or writes `values` and `refusals`
+ * meanwhile.
+ * Refused: RG_NO_ROOM where `values` or `refusals` has fewer elements than are handed in, and nothing else.
+ * Then no element is written.
+ */
+
+/* Which of the numbers are cells? The value of a cell is the cell itself, so `values` holds the cells and 0 in
+ * place of what is none.
+ */
+rg_number rg_check_block(const uint64_t *cells, size_t length, uint64_t *values, size_t values_length,
+                         uint16_t *refusals, size_t refusals_length);
+
+/* The ancestor of each cell at one resolution. A resolution above 15 is each cell's refusal, after its own. */
+rg_number rg_ancestor_block(const uint64_t *cells, size_t length, uint32_t resolution, uint64_t *values,
+                            size_t values_length, uint16_t *refusals, size_t refusals_length);
+
+/* The position of each of `seconds` under one cell. Where `first` is no cell its refusal is that of each. */
+rg_number rg_position_block(uint64_t first, const uint64_t *seconds, size_t length, uint64_t *values,
+                            size_t values_length, uint16_t *refusals, size_t refusals_length);
 
 /* A cursor: it stands before a descendant of a cell, or after the last. The words are there to be kept and
  * copied; rg_next looks at each of them whole, and refuses any cursor that rg_cursor and rg_next cannot make.

@@ -52,7 +52,7 @@ class Refusal(IntEnum):
     Deleted = 7  # cell: pentagon base cell, first used digit that is not 0 is 1
     Resolution = 8  # a resolution or length is not 0 to 15
     Order = 9  # the wanted resolution lies on the wrong side of the cell's
-    NoRoom = 10  # the buffer is shorter than the listing
+    NoRoom = 10  # the buffer is shorter than the listing, or than the block handed in
     Position = 11  # no such position, or a cursor that this library did not make
     NotUnder = 12  # the second cell does not lie under the first
     Direction = 13  # a direction is not 0 to 6, or is 0 where only 1 to 6 will do
@@ -124,6 +124,13 @@ class Walked(NamedTuple):
     carry: int
 
 
+class Block(NamedTuple):
+    """What a block of numbers is answered, element by element: the value and 0, or 0 and the number of a Refusal."""
+
+    values: List[int]
+    refusals: List[int]
+
+
 class Words(NamedTuple):
     """What a cursor keeps: to be stored and handed to Cursor.of_words."""
 
@@ -178,6 +185,8 @@ class _Words(ctypes.Structure):
 
 
 _3 = (c_int32, c_int32, c_int32)
+_BLOCK = (POINTER(c_uint64), c_size_t)
+_LENT = (POINTER(c_uint64), c_size_t, POINTER(c_uint16), c_size_t)
 _EXPORTS = {
     "rg_check": (_Checked, c_uint64),
     "rg_count": (_Number, c_uint64, c_uint32),
@@ -186,6 +195,9 @@ _EXPORTS = {
     "rg_child_at": (_Number, c_uint64, c_uint32, c_uint64),
     "rg_position": (_Number, c_uint64, c_uint64),
     "rg_ancestor": (_Number, c_uint64, c_uint32),
+    "rg_check_block": (_Number, *_BLOCK, *_LENT),
+    "rg_ancestor_block": (_Number, *_BLOCK, c_uint32, *_LENT),
+    "rg_position_block": (_Number, c_uint64, *_BLOCK, *_LENT),
     "rg_cursor": (_Checked, c_uint64, c_uint32, POINTER(_Words)),
     "rg_next": (_Number, POINTER(_Words)),
     "rg_turn_ccw": (_Number, c_uint64, c_uint32),
@@ -462,6 +474,39 @@ def position(first: int, second: int) -> int:
 def ancestor(cell: int, resolution: int) -> int:
     """The ancestor of `cell` at `resolution`. Order where that is finer than the cell's."""
     return _value(_lib.rg_ancestor(_cell(cell), _u32(resolution)))
+
+
+# Blocks: what the single function answers for each of many numbers, in one call. Nothing in a block is raised as
+# Refused. Numbers may be any iterable of ints; an array('Q') is read where it lies.
+
+
+def _over(cells: Iterable[int], call: Any) -> Block:
+    numbers = cells if isinstance(cells, array) and cells.typecode == "Q" else array("Q", map(_cell, cells))
+    length = len(numbers)
+    values, refusals = (c_uint64 * length)(), (c_uint16 * length)()
+    _value(call((c_uint64 * length).from_buffer(numbers), length, (values, length, refusals, length)))
+    return Block(list(values), list(refusals))
+
+
+def check_block(cells: Iterable[int]) -> Block:
+    """check of each number. The value of a cell is the cell itself.
+
+    >>> check_block([0x80f3fffffffffff, 0])
+    Block(values=[580753245698260991, 0], refusals=[0, 2])
+    """
+    return _over(cells, lambda block, length, lent: _lib.rg_check_block(block, length, *lent))
+
+
+def ancestor_block(cells: Iterable[int], resolution: int) -> Block:
+    """ancestor of each number at `resolution`."""
+    r = _u32(resolution)
+    return _over(cells, lambda block, length, lent: _lib.rg_ancestor_block(block, length, r, *lent))
+
+
+def position_block(first: int, seconds: Iterable[int]) -> Block:
+    """position of each of `seconds` under `first`. Where `first` is no cell its refusal is that of each."""
+    n = _cell(first)
+    return _over(seconds, lambda block, length, lent: _lib.rg_position_block(n, block, length, *lent))
 
 
 # Turns of cells.

@@ -310,6 +310,62 @@ class Descendants(Case):
         self.assertEqual(wrong, [])
 
 
+class Blocks(Case):
+    """Each element has what the single function answers for it."""
+
+    def numbers(self, length):
+        block = []
+        for at in range(length):
+            cell, target = (HEXAGON, PENTAGON)[at % 2], at % 16
+            child = rg.child_at(cell, target, at * at % rg.count(cell, target))
+            block.append(child ^ 1 << at % 64 if at % 5 == 0 else child)
+        return block
+
+    def each(self, single, whole):
+        def answer(number):
+            try:
+                value = single(number)
+                return (number if value is None else value), 0
+            except Refused as e:
+                return 0, int(e.number)
+
+        for length in (0, 1, 7, 1000):
+            block = self.numbers(length)
+            wanted = rg.Block([answer(n)[0] for n in block], [answer(n)[1] for n in block])
+            kept = array("Q", block)
+            for numbers in (block, tuple(block), iter(block), kept, memoryview(kept), (ctypes.c_uint64 * length)(*block)):
+                self.assertEqual(whole(numbers), wanted)
+            self.assertEqual(kept.tolist(), block)
+            kept.append(1)
+
+    def test_each(self):
+        self.each(rg.check, rg.check_block)
+        for r in (0, 3, 15, 16, -1, 1 << 32):
+            self.each(lambda n: rg.ancestor(n, r), lambda block: rg.ancestor_block(block, r))
+        for first in (PENTAGON, HEXAGON, DELETED):
+            self.each(lambda n: rg.position(first, n), lambda block: rg.position_block(first, block))
+
+    def test_room(self):
+        block, values, refusals = (ctypes.c_uint64 * 3)(), (ctypes.c_uint64 * 3)(7, 7, 7), (ctypes.c_uint16 * 3)(9, 9, 9)
+        for v, r in ((2, 3), (3, 2), (0, 0)):
+            for a in (
+                rg._lib.rg_check_block(block, 3, values, v, refusals, r),
+                rg._lib.rg_ancestor_block(block, 3, 0, values, v, refusals, r),
+                rg._lib.rg_position_block(HEXAGON, block, 3, values, v, refusals, r),
+            ):
+                self.assertEqual((a.refusal, a.value), (10, 0))
+        self.assertEqual((list(values), list(refusals)), ([7] * 3, [9] * 3))
+
+    def test_kinds(self):
+        for f in (rg.check_block, lambda b: rg.ancestor_block(b, 0), lambda b: rg.position_block(HEXAGON, b)):
+            self.assertRaises(OverflowError, f, [HEXAGON, -1])
+            self.assertRaises(OverflowError, f, [1 << 64])
+            self.assertRaises(TypeError, f, [1.0])
+            self.assertRaises(TypeError, f, HEXAGON)
+        self.assertRaises(OverflowError, rg.position_block, 1 << 64, [])
+        self.assertRaises(TypeError, rg.ancestor_block, [], 1.0)
+
+
 class Answers(Case):
     """The kind of each answer that no example above shows."""
 

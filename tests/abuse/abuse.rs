@@ -32,6 +32,9 @@ mod c {
         pub fn rg_list_short(cell: u64, cells: *mut u64, length: usize) -> super::rg::Number;
         pub fn rg_cursor(cell: u64, target: u64, cursor: *mut u64) -> super::rg::Checked;
         pub fn rg_next(cursor: *mut u64) -> super::rg::Number;
+        pub fn rg_check_block(cells: *const u64, n: usize, values: *mut u64, v: usize, refusals: *mut u16, r: usize) -> super::rg::Number;
+        pub fn rg_ancestor_block(cells: *const u64, n: usize, resolution: u64, values: *mut u64, v: usize, refusals: *mut u16, r: usize) -> super::rg::Number;
+        pub fn rg_position_block(first: u64, seconds: *const u64, n: usize, values: *mut u64, v: usize, refusals: *mut u16, r: usize) -> super::rg::Number;
     }
 }
 
@@ -39,6 +42,17 @@ const UNTOUCHED: u64 = 0xeeee_eeee_eeee_eeee;
 const PAGE: usize = 65536; // a multiple of the page size of every machine
 const READ_WRITE: i32 = 3;
 const PRIVATE_ANONYMOUS: i32 = 0x22; // Linux
+
+/// What a buffer is of, and its value where nothing was written.
+trait Element: Copy + PartialEq {
+    const UNTOUCHED: Self;
+}
+impl Element for u64 {
+    const UNTOUCHED: u64 = UNTOUCHED;
+}
+impl Element for u16 {
+    const UNTOUCHED: u16 = UNTOUCHED as u16;
+}
 
 /// Words between two pages that can be neither read nor written.
 struct Lent(&'static mut [u64]);
@@ -56,16 +70,17 @@ impl Lent {
         }
     }
     /// Hands `call` a buffer that holds `before`, at the upper guard or the lower, and finds it as `after` with nothing else written.
-    /// The words beside it are looked at as far as a long listing would reach.
-    fn hand<T>(&mut self, upper: bool, before: &[u64], after: &[u64], call: impl FnOnce(*mut u64) -> T) -> (T, bool) {
+    /// The elements beside it are looked at as far as a long listing would reach.
+    fn hand<E: Element, T>(&mut self, upper: bool, before: &[E], after: &[E], call: impl FnOnce(*mut E) -> T) -> (T, bool) {
         const NEAR: usize = 64;
-        let (all, length) = (self.0.len(), before.len());
+        let (all, length) = (PAGE / size_of::<E>(), before.len());
+        let elements = unsafe { std::slice::from_raw_parts_mut(self.0.as_mut_ptr() as *mut E, all) };
         let from = if upper { all - length } else { 0 };
-        self.0[from..from + length].copy_from_slice(before);
-        let answer = call(unsafe { self.0.as_mut_ptr().add(from) });
+        elements[from..from + length].copy_from_slice(before);
+        let answer = call(unsafe { elements.as_mut_ptr().add(from) });
         let near = if upper { from.saturating_sub(NEAR)..from } else { length..(length + NEAR).min(all) };
-        let kept = self.0[from..from + length] == *after && self.0[near].iter().all(|w| *w == UNTOUCHED);
-        self.0[from..from + length].fill(UNTOUCHED);
+        let kept = elements[from..from + length] == *after && elements[near].iter().all(|e| *e == E::UNTOUCHED);
+        elements[from..from + length].fill(E::UNTOUCHED);
         (answer, kept)
     }
     fn untouched(&self) -> bool {
@@ -202,6 +217,61 @@ fn listings(random: &mut Random, lent: &mut Lent, short: bool) -> Result<u64, St
     Ok(calls)
 }
 
+/// What a single entry gives for a number, with `with` as its other argument; a check the number itself.
+fn single(line: &str, with: u64, n: u64) -> Result<u64, u16> {
+    let model = ENTRIES.iter().find(|e| e.line == line).expect("an entry").model;
+    let args = if line == "position" { [with, n, 0, 0, 0, 0] } else { [n, with, 0, 0, 0, 0] };
+    model(&args).map(|values| if line == "check" { n } else { values[0] })
+}
+
+/// One block at both guards, for each length of the lent blocks. Returns the calls.
+fn blocks(random: &mut Random, [cells, lent, lent_too]: &mut [Lent; 3]) -> Result<u64, String> {
+    let line = random.of(&["check", "ancestor", "position"]);
+    let with = if line == "position" { some_cell(random) } else { some_word(random, 18) };
+    let most = if random.below(64) == 0 { PAGE / 8 } else { random.of(&[0, 1, 2, 7, 40]) };
+    let block: Vec<u64> = (0..most).map(|_| match model::check(with) {
+        0 if random.below(2) == 0 => {
+            let target = model::resolution(with) + random.below(16 - model::resolution(with));
+            model::child_at(with, target, random.below(model::count(with, target)))
+        }
+        _ => some_cell(random),
+    }).collect();
+    let (n, right): (usize, Vec<_>) = (block.len(), block.iter().map(|&n| single(line, with, n)).collect());
+    let short = n.saturating_sub(1);
+    let mut calls = 0;
+    for (v, r) in [(n, n), (short, n), (n, short), (n + random.below(9) as usize, n), (n, n + random.below(9) as usize), (0, 0)] {
+        let v = v.min(PAGE / 8);
+        let (values, refusals) = (vec![random.next(); v], vec![random.next() as u16; r]);
+        let (mut after, mut after_too) = (values.clone(), refusals.clone());
+        let told = if v < n || r < n { Err(10) } else { Ok([n as u64, 0, 0]) };
+        if told.is_ok() {
+            right.iter().enumerate().for_each(|(at, a)| (after[at], after_too[at]) = (a.unwrap_or(0), a.err().unwrap_or(0)));
+        }
+        for upper in [true, false] {
+            let rubbish = random.next() << 32;
+            let null = |empty: bool| empty && upper;
+            let call = |cells: *mut u64, values: *mut u64, refusals: *mut u16| unsafe {
+                let cells = if null(n == 0) { std::ptr::null_mut() } else { cells };
+                let values = if null(v == 0) { std::ptr::null_mut() } else { values };
+                let refusals = if null(r == 0) { std::ptr::null_mut() } else { refusals };
+                match line {
+                    "check" => c::rg_check_block(cells, n, values, v, refusals, r),
+                    "ancestor" => c::rg_ancestor_block(cells, n, with & u64::from(u32::MAX) | rubbish, values, v, refusals, r),
+                    _ => c::rg_position_block(with, cells, n, values, v, refusals, r),
+                }
+            };
+            let (((a, kept_too), kept), same_cells) = cells.hand(upper, &block, &block, |cells| {
+                lent.hand(upper, &values, &after, |values| lent_too.hand(upper, &refusals, &after_too, |refusals| call(cells, values, refusals)))
+            });
+            calls += 1;
+            if !kept || !kept_too || !same_cells || !same(a.refusal, a.zero, [a.value, 0, 0], told) {
+                return Err(format!("{line} over {n} with {with:x}, lent {v} and {r}, upper {upper}: refusal {}, value {}, kept {kept} {kept_too} {same_cells}; {told:x?}", a.refusal, a.value));
+            }
+        }
+    }
+    Ok(calls)
+}
+
 fn cursors(random: &mut Random, lent: &mut Lent) -> Result<u64, String> {
     let n = some_cell(random);
     let target = if random.below(4) == 0 { some_word(random, 18) } else { (model::resolution(n) + random.below(16)).min(15) };
@@ -246,6 +316,7 @@ fn cursors(random: &mut Random, lent: &mut Lent) -> Result<u64, String> {
 
 fn calls(count: u64, seed: u64) -> Result<String, String> {
     let (mut random, mut lent, mut done) = (Random::new(seed, "abuse"), Lent::new(), 0);
+    let mut three = [Lent::new(), Lent::new(), Lent::new()];
     while done < count {
         for e in ENTRIES {
             numbers(&mut random, e)?;
@@ -254,15 +325,16 @@ fn calls(count: u64, seed: u64) -> Result<String, String> {
         if random.below(16) == 0 {
             let short = random.below(3) == 0;
             done += listings(&mut random, &mut lent, short)?;
+            done += blocks(&mut random, &mut three)?;
         }
-        if random.below(1000) == 0 && !lent.untouched() {
+        if random.below(1000) == 0 && !(lent.untouched() && three.iter().all(Lent::untouched)) {
             return Err("a word far from every buffer was written".into());
         }
     }
-    if !lent.untouched() {
+    if !(lent.untouched() && three.iter().all(Lent::untouched)) {
         return Err("a word far from every buffer was written".into());
     }
-    Ok(format!("abuse: seed {seed}, {done} calls of {} exports, each answer the model's, nothing else written", ENTRIES.len() + 4))
+    Ok(format!("abuse: seed {seed}, {done} calls of {} exports, each answer the model's, nothing else written", ENTRIES.len() + 7))
 }
 
 fn run() -> Result<(), String> {

@@ -1,6 +1,7 @@
 //! Entry `check`. The answer must be that of document 01's table; it is valid exactly where the Rust
 //! answers Ok; and the Rust's reason must be ours, or one that is true too and that the Rust looks
 //! for earlier.
+use crate::children::Borne;
 use crate::frame::{Entry, Random, Tally};
 use crate::{cells, model, rg};
 use h3o::CellIndex;
@@ -42,6 +43,17 @@ fn rust(n: u64, refusal: u16) -> Rust {
         (5, [6]) if model::holds(6, n) => Rust::Earlier("reason-order-6-before-5"),
         _ => Rust::Differs,
     }
+}
+
+/// The refusal, or the number itself, and whether the Rust bears it out.
+pub fn judged(n: u64) -> (Result<u64, u16>, Borne) {
+    let refusal = model::check(n);
+    let borne = match rust(n, refusal) {
+        Rust::Agrees => Ok(None),
+        Rust::Earlier(name) => Ok(Some(name)),
+        Rust::Differs => Err(None),
+    };
+    (if refusal == 0 { Ok(n) } else { Err(refusal) }, borne)
 }
 
 fn one(n: u64, tally: &mut Tally) {

@@ -6,10 +6,10 @@ use crate::{cells, rg};
 use h3o::{CellIndex, Resolution};
 
 /// The value, or the refusal.
-type Outcome<T> = Result<T, u16>;
+pub type Outcome<T> = Result<T, u16>;
 
 /// Numbers of 32 bits that look small in 8 or 16, and the ends.
-const NO_RESOLUTIONS: [u64; 8] = [16, 17, 255, 256, 257, 65536, 1 << 31, u32::MAX as u64];
+pub const NO_RESOLUTIONS: [u64; 8] = [16, 17, 255, 256, 257, 65536, 1 << 31, u32::MAX as u64];
 
 fn cell(n: u64) -> CellIndex {
     CellIndex::try_from(n).unwrap_or_else(|e| panic!("{n:016x} is no cell to the Rust: {e}"))
@@ -40,7 +40,7 @@ fn rust_refuses(refusal: u16, numbers: &[u64], r: u64) -> bool {
 
 // Requests.
 
-fn some_cell(random: &mut Random) -> u64 {
+pub fn some_cell(random: &mut Random) -> u64 {
     let n = cells::random(random);
     match random.below(16) {
         0 => cells::stray(random),
@@ -75,9 +75,9 @@ fn some_position(random: &mut Random, n: u64, target: u64) -> u64 {
 
 // Entries that answer a number.
 
-type Args = [u64; 3];
+pub type Args = [u64; 3];
 
-struct Asked {
+pub struct Asked {
     line: &'static str,
     /// How many cells come first, and whether a cell is answered.
     hexadecimal: (usize, bool),
@@ -128,7 +128,7 @@ const CHILD_AT: Asked = Asked {
     rust: |a| cell(a[0]).child_at(a[2], resolution(a[1])).map(u64::from),
 };
 
-const POSITION: Asked = Asked {
+pub const POSITION: Asked = Asked {
     line: "position",
     hexadecimal: (2, false),
     args: 2,
@@ -163,7 +163,7 @@ const POSITION: Asked = Asked {
     },
 };
 
-const ANCESTOR: Asked = Asked {
+pub const ANCESTOR: Asked = Asked {
     line: "ancestor",
     hexadecimal: (1, true),
     args: 2,
@@ -184,10 +184,10 @@ const ANCESTOR: Asked = Asked {
 };
 
 /// Does the Rust bear out an outcome: by its own, by an intended difference of that name, or not?
-type Borne = Result<Option<&'static str>, Option<u64>>;
+pub type Borne = Result<Option<&'static str>, Option<u64>>;
 
 impl Asked {
-    fn judged(&self, a: Args) -> (Outcome<u64>, Borne) {
+    pub fn judged(&self, a: Args) -> (Outcome<u64>, Borne) {
         let right = (self.model)(a);
         let borne = match right {
             Err(refusal @ 1..=8) => if rust_refuses(refusal, &a[..self.hexadecimal.0], a[1]) { Ok(None) } else { Err(None) },

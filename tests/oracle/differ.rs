@@ -4,6 +4,7 @@
 //!   differ --sample N --into DIR [--seed S] [ENTRY..]
 //!       writes N requests an entry to DIR/stdin and the Rust's answers to DIR/stdout
 mod asked;
+mod blocks;
 mod cells;
 mod check;
 mod children;
@@ -20,7 +21,7 @@ use std::process::ExitCode;
 use std::sync::atomic::{AtomicUsize, Ordering::Relaxed};
 use std::time::{Duration, Instant};
 
-const ENTRIES: [&[Entry]; 5] = [&[check::ENTRY], &children::ENTRIES, &directions::ENTRIES, &points::ENTRIES, &steps::ENTRIES];
+const ENTRIES: [&[Entry]; 6] = [&[check::ENTRY], &children::ENTRIES, &[blocks::ENTRY], &directions::ENTRIES, &points::ENTRIES, &steps::ENTRIES];
 
 struct Wish {
     count: u64,

@@ -116,6 +116,9 @@ mod lent {
         pub fn rg_list_short(cell: u64, cells: *mut u64, length: usize) -> super::Number;
         pub fn rg_cursor(cell: u64, target: u32, cursor: *mut [u64; 5]) -> super::Checked;
         pub fn rg_next(cursor: *mut [u64; 5]) -> super::Number;
+        pub fn rg_check_block(cells: *const u64, n: usize, values: *mut u64, v: usize, refusals: *mut u16, r: usize) -> super::Number;
+        pub fn rg_ancestor_block(cells: *const u64, n: usize, resolution: u32, values: *mut u64, v: usize, refusals: *mut u16, r: usize) -> super::Number;
+        pub fn rg_position_block(first: u64, seconds: *const u64, n: usize, values: *mut u64, v: usize, refusals: *mut u16, r: usize) -> super::Number;
     }
 }
 
@@ -130,4 +133,17 @@ pub fn cursor(cell: u64, target: u32, cursor: &mut [u64; 5]) -> Checked {
 }
 pub fn next(cursor: &mut [u64; 5]) -> Number {
     unsafe { lent::rg_next(cursor) }
+}
+
+/// The two lent blocks.
+pub type Two<'a> = (&'a mut [u64], &'a mut [u16]);
+
+pub fn check_block(cells: &[u64], (v, r): Two) -> Number {
+    unsafe { lent::rg_check_block(cells.as_ptr(), cells.len(), v.as_mut_ptr(), v.len(), r.as_mut_ptr(), r.len()) }
+}
+pub fn ancestor_block(cells: &[u64], resolution: u32, (v, r): Two) -> Number {
+    unsafe { lent::rg_ancestor_block(cells.as_ptr(), cells.len(), resolution, v.as_mut_ptr(), v.len(), r.as_mut_ptr(), r.len()) }
+}
+pub fn position_block(first: u64, seconds: &[u64], (v, r): Two) -> Number {
+    unsafe { lent::rg_position_block(first, seconds.as_ptr(), seconds.len(), v.as_mut_ptr(), v.len(), r.as_mut_ptr(), r.len()) }
 }

@@ -18,6 +18,7 @@
 //! from `target/staticlib` of the repository, where `make lib` puts it and is run to.
 #![warn(missing_docs)]
 
+mod block;
 mod cell;
 mod children;
 mod coord;
@@ -25,6 +26,7 @@ mod direction;
 mod refusal;
 mod sys;
 
+pub use block::{check_block, child_position_block, parent_block};
 pub use cell::{
     center, check, child_at, child_position, children_count, list_into, list_short_into, parent, pentagon_rotate60, read_back, rotate60,
     step, walk, Step, Walk,

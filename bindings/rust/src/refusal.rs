@@ -40,7 +40,7 @@ refusals! {
     Deleted = 7, "pentagon base cell, and the first used digit that is not 0 is 1";
     Resolution = 8, "a resolution or length is above 15";
     Order = 9, "the wanted resolution lies on the wrong side of the cell's";
-    NoRoom = 10, "the buffer is shorter than the listing";
+    NoRoom = 10, "the buffer is shorter than the listing, or than the block handed in";
     Position = 11, "no such position, or a cursor that this library did not make";
     NotUnder = 12, "the second cell does not lie under the first";
     Direction = 13, "a direction is above 6, or is 0 where only 1 to 6 will do";

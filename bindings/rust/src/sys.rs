@@ -86,6 +86,25 @@ mod lent {
         pub fn rg_list_short(cell: u64, cells: *mut u64, length: usize) -> Number;
         pub fn rg_cursor(cell: u64, target: u32, cursor: *mut Cursor) -> Checked;
         pub fn rg_next(cursor: *mut Cursor) -> Number;
+        pub fn rg_check_block(cells: *const u64, n: usize, values: *mut u64, v: usize, refusals: *mut u16, r: usize) -> Number;
+        pub fn rg_ancestor_block(
+            cells: *const u64,
+            n: usize,
+            resolution: u32,
+            values: *mut u64,
+            v: usize,
+            refusals: *mut u16,
+            r: usize,
+        ) -> Number;
+        pub fn rg_position_block(
+            first: u64,
+            seconds: *const u64,
+            n: usize,
+            values: *mut u64,
+            v: usize,
+            refusals: *mut u16,
+            r: usize,
+        ) -> Number;
     }
 }
 
@@ -107,4 +126,42 @@ pub fn rg_cursor(cell: u64, target: u32, cursor: &mut Cursor) -> Checked {
 pub fn rg_next(cursor: &mut Cursor) -> Number {
     // SAFETY: as above
     unsafe { lent::rg_next(cursor) }
+}
+
+pub fn rg_check_block(cells: &[u64], values: &mut [u64], refusals: &mut [u16]) -> Number {
+    let (v, r) = (values.len(), refusals.len());
+    // SAFETY: slices of these lengths; two that are lent as `&mut` overlap nothing
+    unsafe { lent::rg_check_block(cells.as_ptr(), cells.len(), values.as_mut_ptr(), v, refusals.as_mut_ptr(), r) }
+}
+
+pub fn rg_ancestor_block(cells: &[u64], resolution: u32, values: &mut [u64], refusals: &mut [u16]) -> Number {
+    let (v, r) = (values.len(), refusals.len());
+    // SAFETY: as above
+    unsafe {
+        lent::rg_ancestor_block(
+            cells.as_ptr(),
+            cells.len(),
+            resolution,
+            values.as_mut_ptr(),
+            v,
+            refusals.as_mut_ptr(),
+            r,
+        )
+    }
+}
+
+pub fn rg_position_block(first: u64, seconds: &[u64], values: &mut [u64], refusals: &mut [u16]) -> Number {
+    let (v, r) = (values.len(), refusals.len());
+    // SAFETY: as above
+    unsafe {
+        lent::rg_position_block(
+            first,
+            seconds.as_ptr(),
+            seconds.len(),
+            values.as_mut_ptr(),
+            v,
+            refusals.as_mut_ptr(),
+            r,
+        )
+    }
 }
