@@ -48,13 +48,13 @@ fn number(a: rg::Number) -> Option<u64> {
     (a.refusal == 0).then_some(a.value)
 }
 pub fn check(cells: &[u64], into: &mut Answers) -> Option<u64> {
-    number(rg::check_block(cells, &mut into.values, &mut into.refusals))
+    number(rg::check_block(cells, (&mut into.values, &mut into.refusals)))
 }
 pub fn ancestor(cells: &[u64], r: u32, into: &mut Answers) -> Option<u64> {
-    number(rg::ancestor_block(cells, r, &mut into.values, &mut into.refusals))
+    number(rg::ancestor_block(cells, r, (&mut into.values, &mut into.refusals)))
 }
 pub fn position(first: u64, cells: &[u64], into: &mut Answers) -> Option<u64> {
-    number(rg::position_block(first, cells, &mut into.values, &mut into.refusals))
+    number(rg::position_block(first, cells, (&mut into.values, &mut into.refusals)))
 }
 
 type Ask<'a> = &'a dyn Fn(&[u64], &mut Answers) -> Option<u64>;
