@@ -11,7 +11,7 @@ use lib.ListN.{length}
 use Rattle.plane.specs.Directions.{triple, vec, unit}
 use Rattle.plane.specs.Points.{normal, Same, pair, ij, plus, minus, down7, up7, direction, direction-of}
 use Rattle.plane.specs.Ranges.{Within, Broad}
-use Rattle.plane.specs.Strings.{odd, centre}
+use Rattle.plane.specs.Strings.{Digits, odd, centre}
 use Rattle.plane.specs.declared.ijk.IJK.{IJK}
 use Rattle.plane.specs.declared.ijk.IJ.{IJ}
 use Rattle.plane.specs.declared.ijk.Way.the-variants.{Found}
@@ -127,12 +127,13 @@ pub record Reading (n k : ℕ) (p : IJK) (y r : ℕ) (q : IJK) : Type 0 where
   pub upper : y / 2 ^ 45 ≡ n / 2 ^ 45
   pub rest : (s : ℕ) → k < s → s ≤ 15 → digit y s ≡ digit n s
   pub sized : Sized q
+  pub small : (t : ℕ) → ((s : ℕ) → r < s → s ≤ 15 → digit t s ≡ digit y s) → Digits (used t r) → Digits (used t k)
   pub so : (t : ℕ) → ((s : ℕ) → r < s → s ≤ 15 → digit t s ≡ digit y s) → StringOf r q (used t r) → StringOf k p (used t k)
   pub back : (ds : List ℕ) → StringOf k p ds → (xs : List ℕ) × StringOf r q xs
 
 pub begun : (n k : ℕ) (p : IJK) → Sized p → Reading n k p n k p
 begun n k p s =
-    record { place = omega arith; upper = refl; rest = λ s g l. refl; sized = s; so = λ t f x. x; back = λ ds x. (ds, x) }
+    record { place = omega arith; upper = refl; rest = λ s g l. refl; sized = s; small = λ t f x. x; so = λ t f x. x; back = λ ds x. (ds, x) }
 
 pub onward : (n k : ℕ) (p : IJK) (y r : ℕ) (q : IJK) (d z : ℕ) → k ≤ 15 → 0 < r → Reading n k p y r q → d < 7 → Same q (plus (down7 (odd r) (up7 (odd r) q)) (unit d)) → Written y r d z → Reading n k p z (r - 1) (up7 (odd r) q)
 unfolding used
@@ -147,6 +148,9 @@ onward n k p y (suc r) q d z hk g w hd e t =
       upper = t .upper ∙ w .upper;
       rest = λ s a b. t .other s (omega arith) b (λ x. omega arith) ∙ w .rest s a b;
       sized = sized-up o q (w .sized);
+      small = λ u f x.
+          w .small u (λ s a b. f s (omega arith) b ∙ t .other s (omega arith) b (λ c. omega arith))
+          (subst (λ (c : ℕ). c < 7) (sym (f (suc r) (omega arith) (omega arith) ∙ t .there)) hd, x);
       so = λ u f x.
           w .so u (λ s a b. f s (omega arith) b ∙ t .other s (omega arith) b (λ c. omega arith))
           (subst (λ (c : ℕ). StringOf (suc r) q (c ∷ used u r)) (sym (f (suc r) (omega arith) (omega arith) ∙ t .there)) (longer r d (used u r) q hd e x));
@@ -171,11 +175,10 @@ module _ (n k : ℕ) (hk : k ≤ 15) (e : n ≡ 2 ^ 59 + k * 2 ^ 52 + 0 * 2 ^ 45
   unset-seven : (s : ℕ) → 1 ≤ s → s ≤ 15 → digit n s ≡ 7
   unset-seven s g l = sevens-back n 0 15 (omega arith) unset-run s g l
 
-  -- the digits are read, and the point that is left is 0
-  pub found : (p : IJK) (y : ℕ) (q : IJK) → y < 2 ^ 64 → Reading n k p y 0 q → Same q (vec 0 0 0) → Valid y × Reads k p (answered y)
+  -- the digits are read: whatever point is left, they make a cell of base cell 0
+  pub read : (p : IJK) (y : ℕ) (q : IJK) → y < 2 ^ 64 → Reading n k p y 0 q → (y ≡ pack 0 (used y k)) × Valid y
   unfolding used
-  found p y q h w z =
-      let s = w .so y (λ s g l. refl) (record { long = refl; digits = tt; point = sym z }) in
+  read p y q h w =
       let d : WithDigits n (used y k) y = record {
         upper = w .upper;
         digits = ap (used y) unset-res;
@@ -184,7 +187,12 @@ module _ (n k : ℕ) (hk : k ≤ 15) (e : n ≡ 2 ^ 59 + k * 2 ^ 52 + 0 * 2 ^ 45
       let f : y ≡ pack (baseOf n) (used y k) = redrawn-pack n (used y k) y h (ap topBit e ∙ sum-top k 0 (2 ^ 45 - 1) hk (omega arith) low-lt) (ap modeOf e ∙ sum-mode k 0 (2 ^ 45 - 1) hk (omega arith) low-lt) (ap reservedOf e ∙ sum-reserved k 0 (2 ^ 45 - 1) hk (omega arith) low-lt) (λ r g l. unset-seven r (omega arith) l) d in
       let f0 : y ≡ pack 0 (used y k) = f ∙ ap (λ (b : ℕ). pack b (used y k)) unset-base in
       let short : length (used y k) ≤ 15 = rw length-used hk in
-      (subst Valid (sym f0) (pack-valid 0 (used y k) (bare 0 (used y k) (omega arith) short (s .digits))), (used y k, s, f0))
+      (f0, subst Valid (sym f0) (pack-valid 0 (used y k) (bare 0 (used y k) (omega arith) short (w .small y (λ s g l. refl) tt))))
+
+  -- and the point that is left is 0
+  pub found : (p : IJK) (y : ℕ) (q : IJK) → y < 2 ^ 64 → Reading n k p y 0 q → Same q (vec 0 0 0) → Reads k p (answered y)
+  unfolding used
+  found p y q h w z = (used y k, w .so y (λ s g l. refl) (record { long = refl; digits = tt; point = sym z }), read p y q h w .0)
 
 -- or it is not
 pub none : (n k : ℕ) (p : IJK) (y : ℕ) (q : IJK) → Reading n k p y 0 q → (Same q (vec 0 0 0) → ⊥) → Reads k p (refused 15)

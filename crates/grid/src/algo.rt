@@ -123,17 +123,21 @@ pub fn step(c: Cell, d: Direction) -> Stepped
         return Stepped::Leaves(carry);
     }
     if !inside::in_pentagon(c) {
-        return Stepped::Inside(inside::cell(n), 0);
+        let free = inside::cell(n);
+        return Stepped::Inside(free, 0);
     }
     if inside::first_direction(n) != 1 {
-        return Stepped::Inside(inside::cell(n), 0);
+        let kept = inside::cell(n);
+        return Stepped::Inside(kept, 0);
     }
     let first = inside::first_direction(inside::number_of(c));
     if first == 0 {
         return Stepped::DeletedWay;
     }
     if first == 3 {
-        return Stepped::Inside(inside::cell(inside::turn_digits(n, true, 1)), 1);
+        let ccw = inside::cell(inside::turn_digits(n, true, 1));
+        return Stepped::Inside(ccw, 1);
     }
-    Stepped::Inside(inside::cell(inside::turn_digits(n, false, 1)), 5)
+    let cw = inside::cell(inside::turn_digits(n, false, 1));
+    Stepped::Inside(cw, 5)
 }

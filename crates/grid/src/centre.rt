@@ -86,8 +86,9 @@ pub fn read_back(length: Resolution, p: IJK) -> Read
         q = up;
         r -= 1;
     }
+    let y = inside::cell(n);
     if ijk::same_point(q, IJK { i: 0, j: 0, k: 0 }) {
-        return Read::Found(inside::cell(n));
+        return Read::Found(y);
     }
     Read::NoString
 }

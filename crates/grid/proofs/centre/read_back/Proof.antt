@@ -16,7 +16,7 @@ use Rattle.index.specs.Refusals.{answered, refused}
 use Rattle.index.specs.Written.{Written}
 use Rattle.grid.specs.Centres.{Reads}
 use Rattle.grid.proofs.Centres.{within-more}
-use Rattle.grid.proofs.Reading.{Sized, Reading, sized-normal, broad-more, begun, onward, found, none, reads-same}
+use Rattle.grid.proofs.Reading.{Sized, Reading, sized-normal, broad-more, begun, onward, read, found, none, reads-same}
 use Rattle.grid.proofs.centre.read_back.Statement.{statement}
 use Rattle.grid.proofs.centre.read_back.Tie as tie
 
@@ -47,6 +47,9 @@ next m k p n r q i g o up d e x at z eo eu hd s ee ea ex w =
     let s' : Same q (plus (down7 (odd r) (up7 (odd r) q)) (unit d)) = subst (λ (t : IJK). Same q (plus (down7 (odd r) t) (unit d))) u (subst (λ (b : Bool). Same q (plus (down7 b up) (unit d))) eo s) in
     record { begin = i .begin; top = i .top; reading = subst (Reading m k p z (r - 1)) (sym u) (onward m k p n r q d z (i .top) g (i .reading) hd s' w') }
 
+valid : (m k : ℕ) (p : IJK) (n r : ℕ) (q : IJK) → Inv m k p n r q → r ≡ 0 → n < 2 ^ 64 → Valid n
+valid m k p n r q i z h = read m k (i .top) (i .begin) p n q h (subst (λ (x : ℕ). Reading m k p n x q) z (i .reading)) .1
+
 module _ (l m k : ℕ) (p q₀ : IJK) (n r : ℕ) (q : IJK) (i : Inv m k q₀ n r q) (z : r ≡ 0) (ek : k ≡ l) (eq : q₀ ≡ normal p) (b : Bool) (eb : b ≡ same q (vec 0 0 0)) where
   ended : Reading m k q₀ n 0 q
   ended = subst (λ (x : ℕ). Reading m k q₀ n x q) z (i .reading)
@@ -54,11 +57,11 @@ module _ (l m k : ℕ) (p q₀ : IJK) (n r : ℕ) (q : IJK) (i : Inv m k q₀ n 
   point : Same q₀ p
   point = ap normal eq ∙ normal-same p
 
-  hit : n < 2 ^ 64 → b ≡ true → Valid n × Reads k q₀ (answered n)
+  hit : n < 2 ^ 64 → b ≡ true → Reads k q₀ (answered n)
   hit h t = found m k (i .top) (i .begin) q₀ n q h ended (same-test q (vec 0 0 0) .0 (subst T (sym (sym eb ∙ t)) tt))
 
   told : (x : ℕ) → n < 2 ^ 64 → b ≡ true → x ≡ n → Reads l p (answered x)
-  told x h t e = subst (λ (y : ℕ). Reads l p (answered y)) (sym e) (subst (λ (y : ℕ). Reads y p (answered n)) ek (reads-same k q₀ p point (answered n) (hit h t .1)))
+  told x h t e = subst (λ (y : ℕ). Reads l p (answered y)) (sym e) (subst (λ (y : ℕ). Reads y p (answered n)) ek (reads-same k q₀ p point (answered n) (hit h t)))
 
   missed : b ≡ false → Reads l p (refused 15)
   missed f =
@@ -129,32 +132,26 @@ loop-again c =
     let l = o .before .before .loop in
     next _ _ _ (l .n) (l .r) (l .q) (l .inv) (omega arith) (o .is-odd .result) (u .up-aperture7 .result) (f .finest .result .0) _ _ _ _ (o .is-odd .ensures) (u .up-aperture7 .ensures) (f .finest .ensures .0) (f .finest .ensures .1) (v .value .ensures) (a .resolution .ensures) (x .digit .ensures) (c .set-direction .ensures)
 
-same-point-requires : tie.Need-same-point-requires Inv-loop μ-loop
-same-point-requires c κs = (within-more 400000000 1000000000 _ (omega arith) (c .before .loop .inv .reading .sized .within), record { i = omega arith; j = omega arith; k = omega arith })
-
 cell-requires : tie.Need-cell-requires Inv-loop μ-loop
-cell-requires c κs =
-    let s = c .before in
-    let b = s .before .before in
-    let l = b .loop in
-    let n = b .before in
-    let k = n .before in
-    hit _ _ _ (k .before .before .args .p) (n .normalize .result) (l .n) (l .r) (l .q) (l .inv) (omega arith) (k .resolution-number .ensures) (n .normalize .ensures) (s .same-point .result) (s .same-point .ensures) (omega arith) (c .if1 .taken) .0
+cell-requires c κs = let l = c .before .loop in valid _ _ (c .before .before .normalize .result) (l .n) (l .r) (l .q) (l .inv) (omega arith) (omega arith)
+
+same-point-requires : tie.Need-same-point-requires Inv-loop μ-loop
+same-point-requires c κs = (within-more 400000000 1000000000 _ (omega arith) (c .before .before .loop .inv .reading .sized .within), record { i = omega arith; j = omega arith; k = omega arith })
 
 returns : tie.Need-returns Inv-loop μ-loop
 returns c =
-    let t = c .before in
-    let s = t .before in
-    let b = s .before .before in
+    let s = c .before in
+    let y = s .before in
+    let b = y .before .before in
     let l = b .loop in
     let n = b .before in
     let k = n .before in
-    told _ _ _ (k .before .before .args .p) (n .normalize .result) (l .n) (l .r) (l .q) (l .inv) (omega arith) (k .resolution-number .ensures) (n .normalize .ensures) (s .same-point .result) (s .same-point .ensures) _ (omega arith) (t .if1 .taken) (c .cell .ensures)
+    told _ _ _ (k .before .before .args .p) (n .normalize .result) (l .n) (l .r) (l .q) (l .inv) (omega arith) (k .resolution-number .ensures) (n .normalize .ensures) (s .same-point .result) (s .same-point .ensures) _ (omega arith) (c .if1 .taken) (y .cell .ensures)
 
 returns-2 : tie.Need-returns-2 Inv-loop μ-loop
 returns-2 c =
     let s = c .before in
-    let b = s .before .before in
+    let b = s .before .before .before in
     let l = b .loop in
     let n = b .before in
     let k = n .before in
@@ -181,7 +178,7 @@ read-back-spec =
     sub-r
     loop-less
     loop-again
-    same-point-requires
     cell-requires
+    same-point-requires
     returns
     returns-2)
