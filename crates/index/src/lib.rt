@@ -11,6 +11,7 @@ mod raw;
 mod turn;
 
 pub use raw::check;
+pub use raw::check_flat;
 
 // A number that the check let through.
 pub struct Cell(u64);

@@ -1,6 +1,6 @@
 // The check of a raw number: the one way from a number to a cell.
 ghost use mathlib.Core.Path.{_≡_};
-ghost use mathlib.Core.Bool.{cond};
+ghost use mathlib.Core.Bool.{true, cond};
 ghost use Prim.Native.Nat.{_-_, _≤_};
 ghost use lib.Dec.{eqb};
 ghost use Rattle.index.specs.Refusals.{answered, refused};
@@ -19,6 +19,9 @@ use crate::bits::get_reserved;
 use crate::bits::get_resolution;
 use crate::bits::get_top;
 use crate::bits::sel;
+
+// The bits above the resolution: mode 1.
+const CELL_HEAD: u64 = 8;
 
 // One in the place of each digit that is 7.
 fn marks(n: u64) -> u64
@@ -54,7 +57,21 @@ fn refusal_number(n: u64) -> u64
     sel(get_top(n) == 1, 1, k2)
 }
 
-pub fn check(n: u64) -> Checked
+// Where it holds, no test refuses the number.
+fn is_cell(n: u64) -> bool
+    ensures { λ t. ⌜ (t ≡ true → checkOf n ≡ answered n) ⌝ }
+{
+    let base = get_base_cell(n);
+    let u = unused(get_resolution(n));
+    let s = marks(n);
+    let zeros = u64::leading_zeros(n % DIGITS_END);
+    let head = n >> 56 == CELL_HEAD;
+    let deleted = is_pentagon(base) & (zeros % 3 == 0);
+    head & (base < 122) & (s == u) & !deleted
+}
+
+// The check with no branch, for numbers of which many are bad.
+pub fn check_flat(n: u64) -> Checked
     ensures { λ r. ⌜ told r ≡ checkOf n ⌝ }
 {
     let k = refusal_number(n);
@@ -62,4 +79,14 @@ pub fn check(n: u64) -> Checked
         return Checked::Valid(Cell(n));
     }
     Checked::Refused(Refusal(k as u16))
+}
+
+// The check, for numbers that mostly are cells.
+pub fn check(n: u64) -> Checked
+    ensures { λ r. ⌜ told r ≡ checkOf n ⌝ }
+{
+    if is_cell(n) {
+        return Checked::Valid(Cell(n));
+    }
+    check_flat(n)
 }

@@ -1,37 +1,20 @@
 -- `index::raw::check` meets its contract. Assumes nothing.
 use borrow.Author.Needs.{needs}
-use borrow.Author.Tests.{ne-eqb}
-use mathlib.Core.Path.{_≡_, sym, _∙_}
-use mathlib.Core.Bool.{cond}
-use Prim.Native.Nat.{ℕ}
-use native.Mathlib.Omega.{arith}
-use lib.Dec.{eqb}
-use Rattle.index.specs.Refusals.{answered, refused}
+use mathlib.Core.Path.{sym}
 use Rattle.index.proofs.raw.check.Statement.{statement}
 use Rattle.index.proofs.raw.check.Tie as tie
 
-refusal-number-requires : tie.Need-refusal-number-requires
-refusal-number-requires c κs = search needs
-
-accepted : (n k : ℕ) → k ≡ 0 → cond (eqb k 0) (answered n) (refused k) ≡ answered n
-accepted n k e = rw e
-
-rejected : (n k : ℕ) → (k ≡ 0 → ⊥) → cond (eqb k 0) (answered n) (refused k) ≡ refused k
-rejected n k h = rw (ne-eqb k 0 h)
+is-cell-requires : tie.Need-is-cell-requires
+is-cell-requires c κs = search needs
 
 returns : tie.Need-returns
-returns c =
-    let k = c .before .refusal-number in
-    let e : k .result ≡ 0 = omega arith in
-    sym (k .ensures .1 ∙ accepted (c .before .before .args .n) (k .result) e)
+returns c = sym (c .before .is-cell .ensures (c .if1 .taken))
 
-cast-t5 : tie.Need-cast-t5
-cast-t5 c = search needs
+check-flat-requires : tie.Need-check-flat-requires
+check-flat-requires c κs = search needs
 
 returns-2 : tie.Need-returns-2
-returns-2 c =
-    let k = c .before .refusal-number in
-    sym (k .ensures .1 ∙ rejected (c .before .before .args .n) (k .result) (λ z. omega arith))
+returns-2 c = search needs
 
 pub check-spec : {M : Type 1} → statement M
-check-spec = tie.close (tie.spec refusal-number-requires returns cast-t5 returns-2)
+check-spec = tie.close (tie.spec is-cell-requires returns check-flat-requires returns-2)

@@ -1,17 +1,13 @@
 -- `index::raw::refusal_number` meets its contract: seven tests, each before those after it. Assumes nothing.
 use borrow.Author.Needs.{needs}
-use mathlib.Core.Path.{_≡_, ap, _∙_}
-use mathlib.Core.Bool.{Bool, false, not, _&&_}
-use Prim.Native.Nat.{ℕ, _-_, _%_, _^_}
+use mathlib.Core.Path.{ap, _∙_}
+use mathlib.Core.Bool.{not}
+use Prim.Native.Nat.{ℕ, _-_}
 use native.Mathlib.Omega.{arith}
-use lib.Count.{leadingZeros}
 use lib.Dec.{eqb, ltb}
-use Rattle.index.specs.Layout.{baseOf, resOf, firstOf, isPentagonal}
-use Rattle.index.specs.Check.{someOther}
 use Rattle.index.specs.Words.{ones}
 use Rattle.index.proofs.Rules.{numbered, none-answered}
-use Rattle.index.proofs.First.{thirds}
-use Rattle.index.proofs.Validity.{sevens-past}
+use Rattle.index.proofs.Validity.{deleted-by-zeros}
 use Rattle.index.proofs.Flags.{over, under}
 use Rattle.index.proofs.raw.refusal_number.Statement.{statement}
 use Rattle.index.proofs.raw.refusal_number.Tie as tie
@@ -61,10 +57,6 @@ get-top-requires c κs = search needs
 sel-requires-7 : tie.Need-sel-requires-7
 sel-requires-7 c κs = search needs
 
--- the last test, where the unused digits are 7
-last : (n b : ℕ) (p : Bool) → b ≡ baseOf n → p ≡ isPentagonal b → someOther n ≡ false → p && eqb (leadingZeros 64 (n % 2 ^ 45) % 3) 0 ≡ isPentagonal (baseOf n) && eqb (firstOf n (resOf n)) 1
-last n b p eb ep h = rw (ep, eb, thirds n (resOf n) (omega arith) (sevens-past n h))
-
 returns : tie.Need-returns
 returns c =
     let k2 = c .before .before in
@@ -85,7 +77,7 @@ returns c =
     numbered 7 4 _ _ _ _ _ _ (omega arith) (omega arith) (k4 .sel4 .ensures) (ap (ltb 121) (b .get-base-cell .ensures)) (λ _.
     numbered 7 5 _ _ _ _ _ _ (omega arith) (omega arith) (k5 .sel3 .ensures) (over n _ (s .marks .ensures) _ eu) (λ h.
     numbered 7 6 _ _ _ _ _ _ (omega arith) (omega arith) (k6 .sel2 .ensures) (under n _ (s .marks .ensures) _ eu h) (λ g.
-    numbered 7 7 _ _ _ _ _ _ (omega arith) (omega arith) (k7 .sel .ensures) (last n _ _ (b .get-base-cell .ensures) (p .is-pentagon .ensures) g) (λ _. (omega arith, none-answered n))))))))
+    numbered 7 7 _ _ _ _ _ _ (omega arith) (omega arith) (k7 .sel .ensures) (deleted-by-zeros n _ _ (b .get-base-cell .ensures) (p .is-pentagon .ensures) g) (λ _. (omega arith, none-answered n))))))))
 
 pub refusal-number-spec : {M : Type 1} → statement M
 refusal-number-spec =
