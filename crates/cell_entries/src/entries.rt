@@ -26,7 +26,7 @@ use index::inside::resolution_of;
 pub fn check(raw: u64) -> Checked
     ensures { λ r. ⌜ toldChecked r ≡ validOf raw ⌝ }
 {
-    let a = index::check(raw);
+    let a = index::check_flat(raw);
     let index::Checked::Valid(_cell) = a else {
         return Checked::Refused(a.refusal());
     };

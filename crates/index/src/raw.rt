@@ -86,7 +86,8 @@ pub fn check(n: u64) -> Checked
     ensures { λ r. ⌜ told r ≡ checkOf n ⌝ }
 {
     if is_cell(n) {
-        return Checked::Valid(Cell(n));
+        let cell = Cell(n);
+        return Checked::Valid(cell);
     }
     check_flat(n)
 }

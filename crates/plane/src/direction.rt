@@ -1,5 +1,5 @@
 ghost use mathlib.Core.Path.{_≡_};
-ghost use mathlib.Core.Bool.{cond};
+ghost use mathlib.Core.Bool.{true, false, cond};
 ghost use Prim.Native.Nat.{_≤_, _<_};
 ghost use Rattle.plane.specs.Directions.{unit, turn, turns};
 use crate::ijk::IJK;
@@ -35,20 +35,48 @@ pub fn coordinate(d: Direction) -> IJK
     }
 }
 
-// The direction turned once, by 60 degrees.
+// The next number counter-clockwise.
+fn next_ccw(v: u8) -> u8
+    requires { ⌜ v < 7 ⌝ }
+    ensures { λ r. ⌜ r ≡ turn true v ⌝ }
+{
+    match v {
+        1 => 5,
+        2 => 3,
+        3 => 1,
+        4 => 6,
+        5 => 4,
+        6 => 2,
+        _ => 0,
+    }
+}
+
+// The next number clockwise.
+fn next_cw(v: u8) -> u8
+    requires { ⌜ v < 7 ⌝ }
+    ensures { λ r. ⌜ r ≡ turn false v ⌝ }
+{
+    match v {
+        1 => 3,
+        2 => 6,
+        3 => 2,
+        4 => 5,
+        5 => 1,
+        6 => 4,
+        _ => 0,
+    }
+}
+
+// The direction turned once, by 60 degrees. Two choices of six, since one of twelve becomes a jump table.
 pub fn rotate60_once(d: Direction, ccw: bool) -> Direction
     requires { ⌜ d .0 < 7 ⌝ }
     ensures { λ r. ⌜ r .0 ≡ turn ccw (d .0) ⌝ }
 {
     let v = d.0;
-    match v {
-        1 => if ccw { Direction(5) } else { Direction(3) },
-        2 => if ccw { Direction(3) } else { Direction(6) },
-        3 => if ccw { Direction(1) } else { Direction(2) },
-        4 => if ccw { Direction(6) } else { Direction(5) },
-        5 => if ccw { Direction(4) } else { Direction(1) },
-        6 => if ccw { Direction(2) } else { Direction(4) },
-        _ => d,
+    if ccw {
+        Direction(next_ccw(v))
+    } else {
+        Direction(next_cw(v))
     }
 }
 

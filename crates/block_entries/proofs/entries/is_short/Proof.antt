@@ -1,4 +1,4 @@
--- `hex::blocks::is_short` meets its contract. Assumes nothing.
+-- `block_entries::entries::is_short` meets its contract. Assumes nothing.
 use borrow.Author.Tests.{lt-ltb, le-ltb}
 use Rattle.block_entries.proofs.entries.is_short.Statement.{statement}
 use Rattle.block_entries.proofs.entries.is_short.Tie as tie

@@ -1,4 +1,4 @@
--- `hex::blocks::kept` meets its contract. Assumes nothing.
+-- `block_entries::entries::kept` meets its contract. Assumes nothing.
 use borrow.Author.Needs.{needs}
 use mathlib.Core.Path.{_≡_, sym, ap, _∙_}
 use mathlib.Core.List.{[], _∷_}

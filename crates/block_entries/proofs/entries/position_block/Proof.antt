@@ -1,4 +1,4 @@
--- `hex::blocks::position_block` meets its contract, by the laws of `Fills`. Assumes nothing.
+-- `block_entries::entries::position_block` meets its contract, by the laws of `Fills`. Assumes nothing.
 use borrow.Author.Needs.{needs}
 use Prim.Native.Nat.{_-_}
 use native.Mathlib.Omega.{arith}

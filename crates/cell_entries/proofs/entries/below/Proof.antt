@@ -1,4 +1,4 @@
--- `hex::cells::below` meets its contract. Assumes nothing.
+-- `cell_entries::entries::below` meets its contract. Assumes nothing.
 use borrow.Author.Needs.{needs}
 use mathlib.Core.Path.{_≡_, sym, ap, ap₂, _∙_, subst}
 use mathlib.Core.Bool.{not}

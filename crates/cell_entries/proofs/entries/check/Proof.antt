@@ -1,4 +1,4 @@
--- `hex::cells::check` meets its contract: it passes on what the check of `index` says. Assumes nothing.
+-- `cell_entries::entries::check` meets its contract: it passes on what the check of `index` says. Assumes nothing.
 use borrow.Author.Needs.{needs}
 use mathlib.Core.Path.{_≡_, sym, ap, _∙_}
 use mathlib.Core.List.{[]}
@@ -9,8 +9,8 @@ use Rattle.index.proofs.Rules.{none-answered}
 use Rattle.cell_entries.proofs.entries.check.Statement.{statement}
 use Rattle.cell_entries.proofs.entries.check.Tie as tie
 
-check-requires : tie.Need-check-requires
-check-requires c κs = search needs
+check-flat-requires : tie.Need-check-flat-requires
+check-flat-requires c κs = search needs
 
 enum-known-a : tie.Need-enum-known-a
 enum-known-a c = search needs
@@ -24,14 +24,14 @@ refusal-requires c κs = search needs
 returns : tie.Need-returns
 returns c =
     let n : ℕ = c .before .before .before .before .args .raw in
-    let a = c .before .before .before .check in
+    let a = c .before .before .before .check-flat in
     ap refused (c .refusal .ensures) ∙ sym (hit-cell n [] tt _ (of-refusal n (a .result) (c .before .before .match .keys2) (a .ensures)))
 
 returns-2 : tie.Need-returns-2
 returns-2 c =
     let n : ℕ = c .before .before .before .before .args .raw in
-    let a = c .before .before .before .check in
+    let a = c .before .before .before .check-flat in
     sym (past-cell n [] tt (of-cell n (a .result) _ (c .before .a .given .1) (a .ensures) .1) ∙ none-answered tt)
 
 pub check-spec : {M : Type 1} → statement M
-check-spec = tie.close (tie.spec check-requires enum-known-a enum-told refusal-requires returns returns-2)
+check-spec = tie.close (tie.spec check-flat-requires enum-known-a enum-told refusal-requires returns returns-2)

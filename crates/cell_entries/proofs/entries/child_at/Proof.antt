@@ -1,4 +1,4 @@
--- `hex::cells::child_at` meets its contract. Assumes nothing.
+-- `cell_entries::entries::child_at` meets its contract. Assumes nothing.
 use borrow.Author.Needs.{needs}
 use mathlib.Core.Path.{_≡_, sym, ap, ap₂, _∙_, subst}
 use mathlib.Core.List.{[], _∷_}

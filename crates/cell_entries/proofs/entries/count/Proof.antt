@@ -1,4 +1,4 @@
--- `hex::cells::count` meets its contract. Assumes nothing.
+-- `cell_entries::entries::count` meets its contract. Assumes nothing.
 use borrow.Author.Needs.{needs}
 use mathlib.Core.Path.{_≡_, sym, ap, ap₂, _∙_, subst}
 use mathlib.Core.List.{[], _∷_}

@@ -1,4 +1,4 @@
--- `hex::cells::fill` meets its contract. Assumes nothing.
+-- `cell_entries::entries::fill` meets its contract. Assumes nothing.
 use borrow.Author.Needs.{needs}
 use mathlib.Core.Path.{subst}
 use Prim.Native.Nat.{ℕ, _≤_, _<_}

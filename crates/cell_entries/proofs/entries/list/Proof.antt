@@ -1,4 +1,4 @@
--- `hex::cells::list` meets its contract. Assumes nothing.
+-- `cell_entries::entries::list` meets its contract. Assumes nothing.
 use borrow.Author.Needs.{needs}
 use mathlib.Core.Path.{_≡_, sym, _∙_}
 use mathlib.Core.List.{[], _∷_}

@@ -1,4 +1,4 @@
--- `hex::judge::head` meets its contract. Assumes nothing.
+-- `entry::judge::head` meets its contract. Assumes nothing.
 use borrow.Author.Needs.{needs}
 use borrow.Author.Tests.{lt-ltb, le-ltb}
 use mathlib.Core.Path.{_≡_, sym, ap, _∙_}

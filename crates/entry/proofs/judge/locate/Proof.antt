@@ -1,4 +1,4 @@
--- `hex::judge::locate` meets its contract. Assumes nothing.
+-- `entry::judge::locate` meets its contract. Assumes nothing.
 use borrow.Author.Needs.{needs}
 use mathlib.Core.Path.{_≡_}
 use mathlib.Core.Bool.{Bool, true, false}

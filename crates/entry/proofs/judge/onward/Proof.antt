@@ -1,4 +1,4 @@
--- `hex::judge::onward` meets its contract. Assumes nothing.
+-- `entry::judge::onward` meets its contract. Assumes nothing.
 use borrow.Author.Needs.{needs}
 use borrow.Author.Tests.{eq-eqb, ne-eqb}
 use mathlib.Core.Path.{_≡_, _∙_, sym, ap}

@@ -1,4 +1,4 @@
--- `hex::points::direction_of` meets its contract. Assumes nothing.
+-- `point_entries::entries::direction_of` meets its contract. Assumes nothing.
 use borrow.Author.Needs.{needs}
 use mathlib.Core.Path.{_≡_, refl, sym, ap, _∙_, subst}
 use mathlib.Core.Bool.{Bool, true, false, not, cond}

@@ -1,4 +1,4 @@
--- `hex::points::direction_turn` meets its contract. Assumes nothing.
+-- `point_entries::entries::direction_turn` meets its contract. Assumes nothing.
 use borrow.Author.Needs.{needs}
 use borrow.Author.Tests.{lt-ltb, le-ltb}
 use mathlib.Core.Path.{_≡_, sym, ap, _∙_, subst}

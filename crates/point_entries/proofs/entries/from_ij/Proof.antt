@@ -1,4 +1,4 @@
--- `hex::points::from_ij` meets its contract. A coordinate that is handed on is read back from its bits. Assumes nothing.
+-- `point_entries::entries::from_ij` meets its contract. A coordinate that is handed on is read back from its bits. Assumes nothing.
 use borrow.Author.Needs.{needs, sfits-of}
 use mathlib.Core.Path.{_≡_, sym, ap, _∙_, subst}
 use mathlib.Core.List.{[]}

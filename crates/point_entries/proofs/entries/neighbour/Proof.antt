@@ -1,4 +1,4 @@
--- `hex::points::neighbour` meets its contract. Assumes nothing.
+-- `point_entries::entries::neighbour` meets its contract. Assumes nothing.
 use borrow.Author.Needs.{needs}
 use mathlib.Core.Path.{_≡_, sym, ap₂, _∙_, subst}
 use mathlib.Core.List.{[], _∷_}

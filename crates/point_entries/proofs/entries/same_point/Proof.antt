@@ -1,4 +1,4 @@
--- `hex::points::same_point` meets its contract. Assumes nothing.
+-- `point_entries::entries::same_point` meets its contract. Assumes nothing.
 use borrow.Author.Needs.{needs}
 use mathlib.Core.Path.{_≡_, sym, ap₂, _∙_}
 use mathlib.Core.List.{[], _∷_}

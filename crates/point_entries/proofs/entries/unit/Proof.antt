@@ -1,4 +1,4 @@
--- `hex::points::unit` meets its contract. Assumes nothing.
+-- `point_entries::entries::unit` meets its contract. Assumes nothing.
 use borrow.Author.Needs.{needs}
 use mathlib.Core.Path.{_≡_, sym, ap, _∙_, subst}
 use mathlib.Core.List.{[]}

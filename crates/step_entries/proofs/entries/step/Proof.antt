@@ -1,4 +1,4 @@
--- `hex::steps::step` meets its contract. Assumes nothing.
+-- `step_entries::entries::step` meets its contract. Assumes nothing.
 use borrow.Author.Needs.{needs}
 use mathlib.Core.Path.{_≡_, sym, ap, ap₂, _∙_, subst}
 use mathlib.Core.List.{[], _∷_}

@@ -1,4 +1,4 @@
--- `hex::steps::stepped` meets its contract. Assumes nothing.
+-- `step_entries::entries::stepped` meets its contract. Assumes nothing.
 use borrow.Author.Needs.{needs}
 use mathlib.Core.Path.{_≡_, refl, sym, ap, _∙_}
 use mathlib.Core.List.{[], _∷_}

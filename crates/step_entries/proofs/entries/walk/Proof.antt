@@ -1,4 +1,4 @@
--- `hex::steps::walk` meets its contract. Assumes nothing.
+-- `step_entries::entries::walk` meets its contract. Assumes nothing.
 use borrow.Author.Needs.{needs}
 use mathlib.Core.Path.{_≡_, sym, ap, ap₂, _∙_, subst}
 use mathlib.Core.List.{[], _∷_}
