@@ -1,7 +1,8 @@
 // The check of a raw number: the one way from a number to a cell.
 ghost use mathlib.Core.Path.{_≡_};
 ghost use mathlib.Core.Bool.{true, cond};
-ghost use Prim.Native.Nat.{_-_, _≤_};
+ghost use Prim.Native.Nat.{_-_, _%_, _^_, _≤_};
+ghost use lib.Count.{leadingZeros};
 ghost use lib.Dec.{eqb};
 ghost use Rattle.index.specs.Refusals.{answered, refused};
 ghost use Rattle.index.specs.Check.{checkOf, told};
@@ -38,6 +39,13 @@ fn unused(r: Resolution) -> u64
     ONES >> (3 * r.0)
 }
 
+// A first digit 1 has its top bit where the zeros above it are divisible by 3.
+fn is_deleted(n: u64) -> bool
+    ensures { λ t. ⌜ t ≡ eqb (leadingZeros 64 (n % 2 ^ 45) % 3) 0 ⌝ }
+{
+    u64::leading_zeros(n % DIGITS_END) % 3 == 0
+}
+
 // The refusal's number or 0, from the last test to the first, so that none is a branch. A used 7 makes the marks greater than `u`; else an unused digit
 // that is not 7 makes them less; and where they are equal, the zeros above the first digit are divisible by 3 exactly if that digit is 1.
 fn refusal_number(n: u64) -> u64
@@ -46,9 +54,9 @@ fn refusal_number(n: u64) -> u64
     let base = get_base_cell(n);
     let u = unused(get_resolution(n));
     let s = marks(n);
-    let zeros = u64::leading_zeros(n % DIGITS_END);
+    let deleted = is_deleted(n);
     let pent = is_pentagon(base);
-    let k7 = sel(pent & (zeros % 3 == 0), 7, 0);
+    let k7 = sel(pent & deleted, 7, 0);
     let k6 = sel(s < u, 6, k7);
     let k5 = sel(u < s, 5, k6);
     let k4 = sel(121 < base, 4, k5);
@@ -64,10 +72,14 @@ fn is_cell(n: u64) -> bool
     let base = get_base_cell(n);
     let u = unused(get_resolution(n));
     let s = marks(n);
-    let zeros = u64::leading_zeros(n % DIGITS_END);
     let head = n >> 56 == CELL_HEAD;
-    let deleted = is_pentagon(base) & (zeros % 3 == 0);
-    head & (base < 122) & (s == u) & !deleted
+    if head & (base < 122) & (s == u) {
+        if is_pentagon(base) {
+            return !is_deleted(n);
+        }
+        return true;
+    }
+    false
 }
 
 // The check with no branch, for numbers of which many are bad.

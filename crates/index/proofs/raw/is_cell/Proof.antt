@@ -9,8 +9,8 @@ use native.Mathlib.Omega.{arith}
 use lib.Count.{leadingZeros}
 use lib.Dec.{eqb}
 use Rattle.index.specs.Layout.{topBit, modeOf, reservedOf, baseOf, resOf, isPentagonal}
-use Rattle.index.specs.Refusals.{Clear}
-use Rattle.index.specs.Check.{cellRules}
+use Rattle.index.specs.Refusals.{answered, Clear}
+use Rattle.index.specs.Check.{cellRules, checkOf}
 use Rattle.index.specs.Words.{Each, mark, ones}
 use Rattle.index.proofs.Rules.{clear-answered}
 use Rattle.index.proofs.Validity.{deleted-by-zeros}
@@ -18,12 +18,15 @@ use Rattle.index.proofs.Flags.{over, under}
 use Rattle.index.proofs.raw.is_cell.Statement.{statement}
 use Rattle.index.proofs.raw.is_cell.Tie as tie
 
-parts : (a b s k : Bool) → a && b && s && not k ≡ true → (a ≡ true) × (b ≡ true) × (s ≡ true) × (k ≡ false)
-parts true true true false e = (refl, refl, refl, refl)
-parts true true true true e = absurd (true≢false (sym e))
-parts true true false k e = absurd (true≢false (sym e))
-parts true false s k e = absurd (true≢false (sym e))
-parts false b s k e = absurd (true≢false (sym e))
+parts : (a b s : Bool) → a && b && s ≡ true → (a ≡ true) × (b ≡ true) × (s ≡ true)
+parts true true s e = (refl, refl, e)
+parts true false s e = absurd (true≢false (sym e))
+parts false b s e = absurd (true≢false (sym e))
+
+not-both : (p b : Bool) → not b ≡ true → p && b ≡ false
+not-both p true e = absurd (true≢false (sym e))
+not-both true false e = refl
+not-both false false e = refl
 
 -- the bits above the resolution, read again by fields
 module _ (n : ℕ) (e : n / 2 ^ 56 ≡ 8) where
@@ -58,15 +61,31 @@ marks-requires c κs = search needs
 is-pentagon-requires : tie.Need-is-pentagon-requires
 is-pentagon-requires c κs = search needs
 
-returns : tie.Need-returns
-returns c t =
-    let s = c .before in
+is-deleted-requires : tie.Need-is-deleted-requires
+is-deleted-requires c κs = search needs
+
+accepted : (c : tie.After-is-pentagon) → let n = c .before .before .before .before .before .before .args .n in c .is-pentagon .result && eqb (leadingZeros 64 (n % 2 ^ 45) % 3) 0 ≡ false → checkOf n ≡ answered n
+accepted c kept =
+    let s = c .before .before in
     let u = s .before in
     let b = u .before .before in
     let n : ℕ = b .before .args .n in
-    let q = parts _ _ _ _ t in
+    let q = parts _ _ _ (c .before .if1 .taken) in
     let eu = u .unused .ensures ∙ ap (λ (r : ℕ). ones (15 - r)) (u .before .get-resolution .ensures) in
-    clear-answered (cellRules n) n (cleared n _ _ _ _ (b .get-base-cell .ensures) eu (s .marks .ensures) (c .is-pentagon .ensures) (eqb-true _ _ (q .0)) (ltb-true _ _ (q .1)) (eqb-true _ _ (q .2)) (q .3))
+    clear-answered (cellRules n) n (cleared n _ _ _ _ (b .get-base-cell .ensures) eu (s .marks .ensures) (c .is-pentagon .ensures) (eqb-true _ _ (q .0)) (ltb-true _ _ (q .1)) (eqb-true _ _ (q .2)) kept)
+
+returns : tie.Need-returns
+returns c t =
+    let p = c .before .before in
+    accepted p (ap (λ (b : Bool). p .is-pentagon .result && b) (sym (c .is-deleted .ensures)) ∙ not-both (p .is-pentagon .result) (c .is-deleted .result) t)
+
+returns-2 : tie.Need-returns-2
+returns-2 c t =
+    let n : ℕ = c .before .before .before .before .before .before .before .args .n in
+    accepted (c .before) (ap (λ (p : Bool). p && eqb (leadingZeros 64 (n % 2 ^ 45) % 3) 0) (c .if2 .left))
+
+returns-3 : tie.Need-returns-3
+returns-3 c t = absurd (true≢false (sym t))
 
 pub is-cell-spec : {M : Type 1} → statement M
 is-cell-spec =
@@ -77,4 +96,7 @@ is-cell-spec =
     unused-requires
     marks-requires
     is-pentagon-requires
-    returns)
+    is-deleted-requires
+    returns
+    returns-2
+    returns-3)

@@ -1,7 +1,7 @@
 -- `index::raw::refusal_number` meets its contract: seven tests, each before those after it. Assumes nothing.
 use borrow.Author.Needs.{needs}
 use mathlib.Core.Path.{ap, _∙_}
-use mathlib.Core.Bool.{not}
+use mathlib.Core.Bool.{Bool, not, _&&_}
 use Prim.Native.Nat.{ℕ, _-_}
 use native.Mathlib.Omega.{arith}
 use lib.Dec.{eqb, ltb}
@@ -23,6 +23,9 @@ unused-requires c κs = search needs
 
 marks-requires : tie.Need-marks-requires
 marks-requires c κs = search needs
+
+is-deleted-requires : tie.Need-is-deleted-requires
+is-deleted-requires c κs = search needs
 
 is-pentagon-requires : tie.Need-is-pentagon-requires
 is-pentagon-requires c κs = search needs
@@ -66,7 +69,8 @@ returns c =
     let k6 = k5 .before in
     let k7 = k6 .before in
     let p = k7 .before in
-    let s = p .before in
+    let z = p .before in
+    let s = z .before in
     let u = s .before in
     let b = u .before .before in
     let n : ℕ = b .before .args .n in
@@ -77,7 +81,7 @@ returns c =
     numbered 7 4 _ _ _ _ _ _ (omega arith) (omega arith) (k4 .sel4 .ensures) (ap (ltb 121) (b .get-base-cell .ensures)) (λ _.
     numbered 7 5 _ _ _ _ _ _ (omega arith) (omega arith) (k5 .sel3 .ensures) (over n _ (s .marks .ensures) _ eu) (λ h.
     numbered 7 6 _ _ _ _ _ _ (omega arith) (omega arith) (k6 .sel2 .ensures) (under n _ (s .marks .ensures) _ eu h) (λ g.
-    numbered 7 7 _ _ _ _ _ _ (omega arith) (omega arith) (k7 .sel .ensures) (deleted-by-zeros n _ _ (b .get-base-cell .ensures) (p .is-pentagon .ensures) g) (λ _. (omega arith, none-answered n))))))))
+    numbered 7 7 _ _ _ _ _ _ (omega arith) (omega arith) (k7 .sel .ensures) (ap (λ (t : Bool). p .is-pentagon .result && t) (z .is-deleted .ensures) ∙ deleted-by-zeros n _ _ (b .get-base-cell .ensures) (p .is-pentagon .ensures) g) (λ _. (omega arith, none-answered n))))))))
 
 pub refusal-number-spec : {M : Type 1} → statement M
 refusal-number-spec =
@@ -87,6 +91,7 @@ refusal-number-spec =
     get-resolution-requires
     unused-requires
     marks-requires
+    is-deleted-requires
     is-pentagon-requires
     sel-requires
     sel-requires-2
