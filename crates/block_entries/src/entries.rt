@@ -8,9 +8,8 @@ ghost use Rattle.block_entries.specs.Blocks.{blockOf, valuesAfter, refus
 ghost use Rattle.cell_entries.specs.Cells.{positionOf, ancestorOf};
 use cell_entries::ancestor;
 use cell_entries::below;
-use cell_entries::check;
-use entry::Checked;
 use entry::Number;
+use index::inside::number_of;
 use index::inside::refusal;
 
 // One of the two lent blocks has fewer than n elements.
@@ -27,11 +26,11 @@ fn is_short(n: usize, values: usize, refusals: usize) -> bool
 fn kept(raw: u64) -> Number
     ensures { λ r. ⌜ toldNumber r ≡ checkOf raw ⌝ }
 {
-    let a = check(raw);
-    let Checked::Refused(x) = a else {
-        return Number::Is(raw);
+    let a = index::check(raw);
+    let index::Checked::Valid(cell) = a else {
+        return Number::Refused(a.refusal());
     };
-    Number::Refused(x)
+    Number::Is(number_of(cell))
 }
 
 pub fn check_block(cells: &[u64], values: &mut [u64], refusals: &mut [u16]) -> Number
