@@ -19,12 +19,14 @@ mod time;
 mod workbook;
 
 use frame::Random;
-use time::Row;
+use time::{Row, measure};
 
 const SEED: u64 = 1;
 
-fn rows() -> Vec<Row> {
-    [singles::rows, lists::rows, blocks::rows].into_iter().flat_map(|rows| rows(&mut Random::new(SEED, "bench"))).collect()
+fn rows() -> Vec<Row<'static>> {
+    let mut rows: Vec<_> = [singles::rows, lists::rows, blocks::rows].into_iter().flat_map(|rows| rows(&mut Random::new(SEED, "bench"))).collect();
+    measure(&mut rows);
+    rows
 }
 
 /// Ours and the Rust's called, of the release build, by name.
@@ -41,14 +43,14 @@ fn table(rows: &[Row], release: &[(String, f64, f64)]) {
     println!("| | ours, ns | Rust, release, ns | times | Rust, fat LTO, ns | times | Rust inlined, ns | times |");
     println!("|---|---|---|---|---|---|---|---|");
     for row in rows {
-        let Some([called, inlined]) = row.rust else {
-            println!("| {} | {:.2} | | | | | | |", row.name, row.ours);
+        let &[mine, called, inlined] = &row.figures()[..] else {
+            println!("| {} | {:.2} | | | | | | |", row.name, row.figures()[0]);
             continue;
         };
         let (_, ours, rust) = release.iter().find(|r| r.0 == row.name).expect("the same rows");
         println!(
-            "| {} | {:.2} | {rust:.2} | {:.2} | {called:.2} | {:.2} | {inlined:.2} | {:.2} |",
-            row.name, row.ours, rust / ours, called / row.ours, inlined / row.ours
+            "| {} | {mine:.2} | {rust:.2} | {:.2} | {called:.2} | {:.2} | {inlined:.2} | {:.2} |",
+            row.name, rust / ours, called / mine, inlined / mine
         );
     }
 }
@@ -58,7 +60,7 @@ fn main() {
     let rows = rows();
     match &words[..] {
         [figures] => {
-            let lines: String = rows.iter().filter_map(|r| r.rust.map(|rust| format!("{}\t{}\t{}\n", r.name, r.ours, rust[0]))).collect();
+            let lines: String = rows.iter().filter(|r| r.figures().len() == 3).map(|r| format!("{}\t{}\t{}\n", r.name, r.figures()[0], r.figures()[1])).collect();
             std::fs::write(figures, lines).expect(figures);
         }
         [figures, beside] if beside == "--beside" => {

@@ -57,28 +57,34 @@ pub fn position(first: u64, cells: &[u64], into: &mut Answers) -> Option<u64> {
     number(rg::position_block(first, cells, (&mut into.values, &mut into.refusals)))
 }
 
-type Ask<'a> = &'a dyn Fn(&[u64], &mut Answers) -> Option<u64>;
+type Ask = Box<dyn Fn(&[u64], &mut Answers) -> Option<u64>>;
 
 /// A row in nanoseconds an element, over blocks of 8,192.
-fn row(name: &str, cells: &[u64], ours: Ask, theirs: Ask) -> Row {
-    let [mut a, mut b, mut c] = [(); 3].map(|()| Answers::new());
-    let blocks: Vec<&[u64]> = cells.chunks(BLOCK).collect();
-    for block in &blocks {
+fn row(name: &str, cells: Vec<u64>, ours: Ask, theirs: Ask) -> Row<'static> {
+    let [mut a, mut b] = [(); 2].map(|()| Answers::new());
+    for block in cells.chunks(BLOCK) {
         assert!(ours(block, &mut a) == theirs(block, &mut b) && a.plain() == b, "{name}");
     }
-    beside(name, &blocks, BLOCK as f64, |block| ours(block, &mut a), |block| theirs(block, &mut b), |block| theirs(block, &mut c))
+    let starts: Vec<usize> = (0..cells.len()).step_by(BLOCK).collect();
+    let (again, once_more) = (cells.clone(), cells.clone());
+    let theirs = std::rc::Rc::new(theirs);
+    let (third, mut c) = (theirs.clone(), Answers::new());
+    beside(
+        name, &starts, BLOCK as f64, move |at| ours(&cells[at..at + BLOCK], &mut a), move |at| theirs(&again[at..at + BLOCK], &mut b),
+        move |at| third(&once_more[at..at + BLOCK], &mut c),
+    )
 }
 
-pub fn rows(random: &mut Random) -> Vec<Row> {
+pub fn rows(random: &mut Random) -> Vec<Row<'static>> {
     let valid = many(|| cell(random));
     let half = many(|| if random.below(2) == 0 { cell(random) } else { damaged(random) });
     let fine = many(|| cell_at(random, 9));
     let first = hexagon_at(random, 5);
     let under = many(|| model::child_at(first, 9, random.below(2401)));
     vec![
-        row("check in blocks, valid cells", &valid, &|n, a| check(n, a), &|n, a| rust_check(n, a)),
-        row("check in blocks, half of them damaged", &half, &|n, a| check(n, a), &|n, a| rust_check(n, a)),
-        row("ancestor in blocks, 9 to 5", &fine, &|n, a| ancestor(n, 5, a), &|n, a| rust_ancestor(n, 5, a)),
-        row("position in blocks, 9 under 5", &under, &|n, a| position(first, n, a), &|n, a| rust_position(first, n, a)),
+        row("check in blocks, valid cells", valid, Box::new(move |n, a| check(n, a)), Box::new(move |n, a| rust_check(n, a))),
+        row("check in blocks, half of them damaged", half, Box::new(move |n, a| check(n, a)), Box::new(move |n, a| rust_check(n, a))),
+        row("ancestor in blocks, 9 to 5", fine, Box::new(move |n, a| ancestor(n, 5, a)), Box::new(move |n, a| rust_ancestor(n, 5, a))),
+        row("position in blocks, 9 under 5", under, Box::new(move |n, a| position(first, n, a)), Box::new(move |n, a| rust_position(first, n, a))),
     ]
 }

@@ -33,14 +33,14 @@ macro_rules! row {
     }};
 }
 
-fn checks(random: &mut Random) -> Vec<Row> {
+fn checks(random: &mut Random) -> Vec<Row<'static>> {
     let valid = many(|| (cell(random),));
     let half = many(|| (if random.below(2) == 0 { cell(random) } else { damaged(random) },));
     let check = |name, inputs: &[(u64,)]| row!(name, inputs, |n: u64| -> u64: (rg::check(n).refusal == 0).then_some(1), rust::check(n));
     vec![check("check, valid cells", &valid), check("check, half of them damaged", &half)]
 }
 
-fn descendants(random: &mut Random) -> Vec<Row> {
+fn descendants(random: &mut Random) -> Vec<Row<'static>> {
     let mixed = many(|| { let n = cell(random); child(random, n) });
     let pentagons = many(|| { let r = random.below(16); let n = pentagon_at(random, r); child(random, n) });
     let pairs = |of: &[(u64, u32, u64)]| of.iter().map(|&(n, t, p)| (n, model::child_at(n, t.into(), p))).collect::<Vec<_>>();
@@ -60,7 +60,7 @@ fn descendants(random: &mut Random) -> Vec<Row> {
     ]
 }
 
-fn turns(random: &mut Random) -> Vec<Row> {
+fn turns(random: &mut Random) -> Vec<Row<'static>> {
     let counted = many(|| (cell(random), random.below(6) as u32));
     let cells = many(|| (cell(random),));
     vec![
@@ -71,7 +71,7 @@ fn turns(random: &mut Random) -> Vec<Row> {
     ]
 }
 
-fn steps(random: &mut Random) -> Vec<Row> {
+fn steps(random: &mut Random) -> Vec<Row<'static>> {
     let cells = many(|| (cell(random),));
     let ways = many(|| (cell(random), 1 + random.below(6) as u32));
     let inside = many(|| loop {
@@ -90,7 +90,7 @@ fn steps(random: &mut Random) -> Vec<Row> {
     ]
 }
 
-fn directions(random: &mut Random) -> Vec<Row> {
+fn directions(random: &mut Random) -> Vec<Row<'static>> {
     let ways = many(|| (random.below(7) as u32,));
     let counted = many(|| (random.below(7) as u32, random.below(6) as u32));
     vec![
@@ -102,7 +102,7 @@ fn directions(random: &mut Random) -> Vec<Row> {
     ]
 }
 
-fn points(random: &mut Random) -> Vec<Row> {
+fn points(random: &mut Random) -> Vec<Row<'static>> {
     use crate::inputs::point as some;
     let one = many(|| (some(random),));
     let two = many(|| { let p = some(random); (p, if random.below(2) == 0 { p } else { some(random) }) });
@@ -140,6 +140,6 @@ fn points(random: &mut Random) -> Vec<Row> {
     ]
 }
 
-pub fn rows(random: &mut Random) -> Vec<Row> {
+pub fn rows(random: &mut Random) -> Vec<Row<'static>> {
     [checks, descendants, turns, steps, directions, points].into_iter().flat_map(|rows| rows(random)).collect()
 }

@@ -1,9 +1,11 @@
-//! How a row is timed: the same inputs to both sides, warmed up, the least of many rounds, the sides by turns.
+//! How a row is timed: the same inputs to both sides, warmed up, the least of many rounds. The sides take turns, and the rows too, so that
+//! a busy second of the machine falls on all of them.
 use std::fmt::Debug;
 use std::hint::black_box;
 use std::time::Instant;
 
-const ROUNDS: usize = 101;
+const PASSES: usize = 25;
+const ROUNDS: usize = 8;
 
 /// What an entry answers, none where it refuses. Each answer is folded into a number, so that no call can be left out.
 pub trait Answer: Copy + PartialEq + Debug {
@@ -30,14 +32,25 @@ impl Answer for Option<(u64, u64)> {
     }
 }
 
-/// One row, in nanoseconds an element: ours through the C face, the Rust by a call that is not inlined, and the Rust inlined in the loop.
-pub struct Row {
+/// One way to answer all inputs of a row: it answers them all, and gives the nanoseconds.
+type Side<'a> = Box<dyn FnMut() -> f64 + 'a>;
+
+/// A row before it is timed. The sides are ours through the C face, then, where the Rust has the entry, the Rust by a call that is not
+/// inlined and the Rust inlined in the loop. `elements` is what a round is divided by.
+pub struct Row<'a> {
     pub name: String,
-    pub ours: f64,
-    pub rust: Option<[f64; 2]>,
+    elements: f64,
+    sides: Vec<Side<'a>>,
+    least: Vec<f64>,
 }
 
-/// Nanoseconds for all inputs.
+impl Row<'_> {
+    /// The least nanoseconds an element of each side.
+    pub fn figures(&self) -> Vec<f64> {
+        self.least.iter().map(|ns| ns / self.elements).collect()
+    }
+}
+
 #[inline(never)]
 fn round<I: Copy, T: Answer>(inputs: &[I], ask: &mut impl FnMut(I) -> T) -> f64 {
     let start = Instant::now();
@@ -46,32 +59,45 @@ fn round<I: Copy, T: Answer>(inputs: &[I], ask: &mut impl FnMut(I) -> T) -> f64 
     start.elapsed().as_nanos() as f64
 }
 
-/// The least time of each side for all inputs. `equal` has the two sides' answers compared first.
-pub fn least<const N: usize>(mut sides: [&mut dyn FnMut() -> f64; N]) -> [f64; N] {
-    let mut least = [f64::INFINITY; N];
-    for _ in 0..ROUNDS {
-        for (least, side) in least.iter_mut().zip(&mut sides) {
-            *least = least.min(side());
-        }
-    }
-    least
+fn side<'a, I: Copy + 'a, T: Answer>(inputs: &[I], mut ask: impl FnMut(I) -> T + 'a) -> Side<'a> {
+    let inputs = inputs.to_vec();
+    Box::new(move || round(&inputs, &mut ask))
 }
 
-/// A row of an entry that the Rust has too. `elements` is how many an input stands for.
-pub fn beside<I: Copy + Debug, T: Answer>(
-    name: &str, inputs: &[I], elements: f64, mut ours: impl FnMut(I) -> T, mut rust: impl FnMut(I) -> T, mut inlined: impl FnMut(I) -> T,
-) -> Row {
+fn row<'a>(name: &str, elements: f64, sides: Vec<Side<'a>>) -> Row<'a> {
+    let least = vec![f64::INFINITY; sides.len()];
+    Row { name: name.into(), elements, sides, least }
+}
+
+/// A row of an entry that the Rust has too; an input stands for so many elements. The answers are compared first.
+pub fn beside<'a, I: Copy + Debug + 'a, T: Answer>(
+    name: &str, inputs: &[I], elements: f64, mut ours: impl FnMut(I) -> T + 'a, mut rust: impl FnMut(I) -> T + 'a, mut inlined: impl FnMut(I) -> T + 'a,
+) -> Row<'a> {
     for &input in inputs {
         let (a, b, c) = (ours(input), rust(input), inlined(input));
         assert!(a == b && b == c, "{name} {input:x?}: ours {a:x?}, the Rust {b:x?}, inlined {c:x?}");
     }
-    let all = inputs.len() as f64 * elements;
-    let [a, b, c] = least([&mut || round(inputs, &mut ours), &mut || round(inputs, &mut rust), &mut || round(inputs, &mut inlined)]);
-    Row { name: name.into(), ours: a / all, rust: Some([b / all, c / all]) }
+    row(name, elements * inputs.len() as f64, vec![side(inputs, ours), side(inputs, rust), side(inputs, inlined)])
 }
 
-/// A row of an entry that the Rust lacks.
-pub fn alone<I: Copy, T: Answer>(name: &str, inputs: &[I], mut ours: impl FnMut(I) -> T) -> Row {
-    let [a] = least([&mut || round(inputs, &mut ours)]);
-    Row { name: name.into(), ours: a / inputs.len() as f64, rust: None }
+/// A row that only we have.
+pub fn alone<'a, I: Copy + 'a, T: Answer>(name: &str, inputs: &[I], ours: impl FnMut(I) -> T + 'a) -> Row<'a> {
+    row(name, inputs.len() as f64, vec![side(inputs, ours)])
+}
+
+/// A row of nothing but work that a closure times itself.
+pub fn plain<'a>(name: &str, elements: f64, work: impl FnMut() -> f64 + 'a) -> Row<'a> {
+    row(name, elements, vec![Box::new(work)])
+}
+
+pub fn measure(rows: &mut [Row]) {
+    for _ in 0..PASSES {
+        for row in rows.iter_mut() {
+            for _ in 0..ROUNDS {
+                for (least, side) in row.least.iter_mut().zip(&mut row.sides) {
+                    *least = least.min(side());
+                }
+            }
+        }
+    }
 }
