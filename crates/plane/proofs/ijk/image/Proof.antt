@@ -12,16 +12,16 @@ use Rattle.plane.proofs.ijk.image.Tie as tie
 shifted-requires : tie.Need-shifted-requires
 shifted-requires c κs = search needs
 
+returns : tie.Need-returns
+returns c =
+    let a = c .before .before .args in
+    c .weighted .ensures ∙ ap (λ (q : IJK). normal (weighed (a .a) (a .p) q)) (c .before .shifted .ensures)
+
 weighted-requires : tie.Need-weighted-requires
 weighted-requires c κs =
     let a = c .before .args in
     subst (λ (q : IJK). Weighs 1000000000 (a .a) (a .p) q) (sym (c .shifted .ensures))
     (weighs-beside 1000000000 (a .a) 250000000 (a .ccw) (a .p) (omega (arith, c .before .pre .0)) (c .before .pre .1))
-
-returns : tie.Need-returns
-returns c =
-    let a = c .before .before .args in
-    c .weighted .ensures ∙ ap (λ (q : IJK). normal (weighed (a .a) (a .p) q)) (c .before .shifted .ensures)
 
 pub image-spec : {M : Type 1} → statement M
 image-spec = tie.close (tie.spec shifted-requires weighted-requires returns)

@@ -29,14 +29,14 @@ at c =
       dj = fits (p .j -ℤ p .k) (omega (arith, s .pre));
     }
 
+returns : tie.Need-returns
+returns c = let h = at c in simp (toZ-ofZ, h .fi, h .fj, h .fk, h .di, h .dj)
+
 sub-t5 : tie.Need-sub-t5
 sub-t5 c = let h = at c in simp (toZ-ofZ, h .fi, h .fk) (h .di)
 
 sub-t6 : tie.Need-sub-t6
 sub-t6 c = let h = at c in simp (toZ-ofZ, h .fj, h .fk) (h .dj)
-
-returns : tie.Need-returns
-returns c = let h = at c in simp (toZ-ofZ, h .fi, h .fj, h .fk, h .di, h .dj)
 
 pub to-ij-spec : {M : Type 1} → statement M
 to-ij-spec = tie.close (tie.spec sub-t5 sub-t6 returns)

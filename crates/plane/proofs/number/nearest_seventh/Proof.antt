@@ -32,6 +32,18 @@ less n h = fits (n -ℤ pos 3) (omega (arith, abs-sub n (pos 3)))
 more : (n : ℤ) → natAbs n ≤ 1000000000 → SFits w32 (n +ℤ pos 3)
 more n h = fits (n +ℤ pos 3) (omega (arith, abs-add n (pos 3)))
 
+returns : tie.Need-returns
+returns c =
+    let b = c .before in
+    let q = below (b .args .n) (simp (toZ-ofZ, b .fits .n) at (c .if1 .taken)) in
+    simp (toZ-ofZ, b .fits .n, less (b .args .n) (b .pre), q, fits-nearest (b .args .n) (b .pre)) (record { is = refl; small = omega (arith, b .pre, abs-nearest (b .args .n)); fits = fits-nearest (b .args .n) (b .pre) })
+
+returns-2 : tie.Need-returns-2
+returns-2 c =
+    let b = c .before in
+    let q = above (b .args .n) (simp (toZ-ofZ, b .fits .n) at (c .if1 .left)) in
+    simp (toZ-ofZ, b .fits .n, more (b .args .n) (b .pre), q, fits-nearest (b .args .n) (b .pre)) (record { is = refl; small = omega (arith, b .pre, abs-nearest (b .args .n)); fits = fits-nearest (b .args .n) (b .pre) })
+
 sub-result : tie.Need-sub-result
 sub-result c = simp (toZ-ofZ, c .before .fits .n) (less (c .before .args .n) (c .before .pre))
 
@@ -49,18 +61,6 @@ div-result-2 c =
     let b = c .before in
     let q = above (b .args .n) (simp (toZ-ofZ, b .fits .n) at (c .if1 .left)) in
     (lit< tt, simp (toZ-ofZ, b .fits .n, more (b .args .n) (b .pre), q) (fits-nearest (b .args .n) (b .pre)))
-
-returns : tie.Need-returns
-returns c =
-    let b = c .before in
-    let q = below (b .args .n) (simp (toZ-ofZ, b .fits .n) at (c .if1 .taken)) in
-    simp (toZ-ofZ, b .fits .n, less (b .args .n) (b .pre), q, fits-nearest (b .args .n) (b .pre)) (record { is = refl; small = omega (arith, b .pre, abs-nearest (b .args .n)); fits = fits-nearest (b .args .n) (b .pre) })
-
-returns-2 : tie.Need-returns-2
-returns-2 c =
-    let b = c .before in
-    let q = above (b .args .n) (simp (toZ-ofZ, b .fits .n) at (c .if1 .left)) in
-    simp (toZ-ofZ, b .fits .n, more (b .args .n) (b .pre), q, fits-nearest (b .args .n) (b .pre)) (record { is = refl; small = omega (arith, b .pre, abs-nearest (b .args .n)); fits = fits-nearest (b .args .n) (b .pre) })
 
 pub nearest-seventh-spec : {M : Type 1} → statement M
 nearest-seventh-spec =
