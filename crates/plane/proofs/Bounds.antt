@@ -42,6 +42,10 @@ equal-bits x y fx fy =
     (λ t. eq-equal x y (sym (toZ-ofZ fx) ∙ ap (toZ w32) (eqb→eq (ofZ w32 x) (ofZ w32 y) t) ∙ toZ-ofZ fy))
     (λ t. subst (λ (z : ℤ). T (eqb (ofZ w32 x) (ofZ w32 z))) (equal-eq x y t) (eqb-refl (ofZ w32 x)))
 
+-- a difference, read back
+pub less-read : (x y : ℤ) → SFits w32 x → SFits w32 y → SFits w32 (x -ℤ y) → rd (rd x -ℤ rd y) ≡ x -ℤ y
+less-read x y fx fy f = ap rd (ap₂ _-ℤ_ (toZ-ofZ fx) (toZ-ofZ fy)) ∙ toZ-ofZ f
+
 -- what `scaled` gives, read back
 pub scaled-read : (a : ℕ) (x y r : ℤ) → SFits w32 x → SFits w32 y → Is (pos a *ℤ rd x +ℤ rd y) 1000000000 r → rd r ≡ pos a *ℤ x +ℤ y
 scaled-read a x y r fx fy e = toZ-ofZ (e .fits) ∙ e .is ∙ ap₂ (λ (u v : ℤ). pos a *ℤ u +ℤ v) (toZ-ofZ fx) (toZ-ofZ fy)
