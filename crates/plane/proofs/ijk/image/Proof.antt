@@ -3,9 +3,9 @@ use mathlib.Core.Path.{sym, ap, _∙_, subst}
 use native.Mathlib.Omega.{arith}
 use borrow.Author.Needs.{needs}
 use Rattle.plane.specs.Points.{normal}
-use Rattle.plane.specs.Inside.{Weighs, weighed}
+use Rattle.plane.specs.Inside.{Weighs, weighed, beside}
 use Rattle.plane.specs.declared.ijk.IJK.{IJK}
-use Rattle.plane.proofs.Bounds.{weighs-beside}
+use Rattle.plane.proofs.Bounds.{within-beside, weighs}
 use Rattle.plane.proofs.ijk.image.Statement.{statement}
 use Rattle.plane.proofs.ijk.image.Tie as tie
 
@@ -20,8 +20,9 @@ returns c =
 weighted-requires : tie.Need-weighted-requires
 weighted-requires c κs =
     let a = c .before .args in
+    let w = c .before .pre .1 in
     subst (λ (q : IJK). Weighs 1000000000 (a .a) (a .p) q) (sym (c .shifted .ensures))
-    (weighs-beside 1000000000 (a .a) 250000000 (a .ccw) (a .p) (omega (arith, c .before .pre .0)) (c .before .pre .1))
+    (weighs 1000000000 (a .a) 250000000 250000000 (a .p) (beside (a .ccw) (a .p)) (omega (arith, c .before .pre .0)) w (within-beside 250000000 (a .ccw) (a .p) w))
 
 pub image-spec : {M : Type 1} → statement M
 image-spec = tie.close (tie.spec shifted-requires weighted-requires returns)
