@@ -42,6 +42,16 @@ equal-bits x y fx fy =
     (λ t. eq-equal x y (sym (toZ-ofZ fx) ∙ ap (toZ w32) (eqb→eq (ofZ w32 x) (ofZ w32 y) t) ∙ toZ-ofZ fy))
     (λ t. subst (λ (z : ℤ). T (eqb (ofZ w32 x) (ofZ w32 z))) (equal-eq x y t) (eqb-refl (ofZ w32 x)))
 
+-- so do the components of a point
+pub record Held (p : IJK) : Type 0 where
+  pub i : SFits w32 (p .i)
+  pub j : SFits w32 (p .j)
+  pub k : SFits w32 (p .k)
+
+-- a difference, read back
+pub less-read : (x y : ℤ) → SFits w32 x → SFits w32 y → SFits w32 (x -ℤ y) → rd (rd x -ℤ rd y) ≡ x -ℤ y
+less-read x y fx fy f = ap rd (ap₂ _-ℤ_ (toZ-ofZ fx) (toZ-ofZ fy)) ∙ toZ-ofZ f
+
 -- what `scaled` gives, read back
 pub scaled-read : (a : ℕ) (x y r : ℤ) → SFits w32 x → SFits w32 y → Is (pos a *ℤ rd x +ℤ rd y) 1000000000 r → rd r ≡ pos a *ℤ x +ℤ y
 scaled-read a x y r fx fy e = toZ-ofZ (e .fits) ∙ e .is ∙ ap₂ (λ (u v : ℤ). pos a *ℤ u +ℤ v) (toZ-ofZ fx) (toZ-ofZ fy)
@@ -80,18 +90,16 @@ within-minus m n s t a b =
       k = omega (arith, abs-sub (s .k) (t .k));
     }
 
-pub weighs-beside : (n a m : ℕ) (o : Bool) (t : IJK) → a * m + m ≤ n → Within m t → Weighs n a t (beside o t)
-weighs-beside n a m true t h w =
+pub within-beside : (n : ℕ) (o : Bool) (t : IJK) → Within n t → Within n (beside o t)
+within-beside n true t w = record { i = w .j; j = w .k; k = w .i }
+within-beside n false t w = record { i = w .k; j = w .i; k = w .j }
+
+pub weighs : (l a m n : ℕ) (s t : IJK) → a * m + n ≤ l → Within m s → Within n t → Weighs l a s t
+weighs l a m n s t h v w =
     record {
-      i = omega (arith, mul-le-mul-left a (w .i));
-      j = omega (arith, mul-le-mul-left a (w .j));
-      k = omega (arith, mul-le-mul-left a (w .k));
-    }
-weighs-beside n a m false t h w =
-    record {
-      i = omega (arith, mul-le-mul-left a (w .i));
-      j = omega (arith, mul-le-mul-left a (w .j));
-      k = omega (arith, mul-le-mul-left a (w .k));
+      i = omega (arith, mul-le-mul-left a (v .i));
+      j = omega (arith, mul-le-mul-left a (v .j));
+      k = omega (arith, mul-le-mul-left a (v .k));
     }
 
 -- a point within the entry range is within its bounds, and so is its IJ form

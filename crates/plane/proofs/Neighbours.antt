@@ -15,14 +15,14 @@ use Rattle.plane.proofs.Normal.{normal-least}
 use Rattle.plane.proofs.Pairs.{_⊕_, _⊖_, ij-plus, ij-minus, ij-same, same-ij}
 use Rattle.plane.proofs.Units.{small-unit, unit-normal, unit-one}
 
+pub cancelled : (a b : ℤ) → (a +ℤ b) -ℤ a ≡ b
+cancelled a b = rw (← whole a, ← whole b) (simp diffs (omega arith))
+
 module _ (a b c : ℤ) where
   cancel : a +ℤ b ≡ a +ℤ c → b ≡ c
   cancel e =
       let h = simp diffs at (rw (← whole a, ← whole b, ← whole c) at e) in
       rw (← whole b, ← whole c) (simp diffs (omega arith))
-
-  cancelled : (a +ℤ b) -ℤ a ≡ b
-  cancelled = rw (← whole a, ← whole b) (simp diffs (omega arith))
 
   brought : a -ℤ b ≡ c → a ≡ b +ℤ c
   brought e =
@@ -50,7 +50,7 @@ unit-largest d h = equal-eq (largest (normal (unit d))) (pos (min d 1)) (at 7 (�
 pub neighbour-distance : (t : IJK) (d : ℕ) → 0 < d → d < 7 → distance (plus t (unit d)) t ≡ pos 1
 neighbour-distance t d p h =
     let u = unit d in
-    let e : ij (minus (plus t u) t) ≡ ij u = ij-minus (plus t u) t ∙ ap (λ (q : IJ). q ⊖ ij t) (ij-plus t u) ∙ ap₂ pair (cancelled (ij t .i) (ij u .i) (pos 0)) (cancelled (ij t .j) (ij u .j) (pos 0)) in
+    let e : ij (minus (plus t u) t) ≡ ij u = ij-minus (plus t u) t ∙ ap (λ (q : IJ). q ⊖ ij t) (ij-plus t u) ∙ ap₂ pair (cancelled (ij t .i) (ij u .i)) (cancelled (ij t .j) (ij u .j)) in
     let m : min d 1 ≡ 1 = omega arith in
     ap largest (ij-same (minus (plus t u) t) u e) ∙ unit-largest d h ∙ ap pos m
 

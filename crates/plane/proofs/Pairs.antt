@@ -3,7 +3,7 @@
 use mathlib.Core.Path.{_≡_, sym, ap, ap₂, _∙_}
 use mathlib.Core.Bool.{Bool, true, false}
 use native.Mathlib.Omega.{arith}
-use lib.IntN.{ℤ, pos, _+ℤ_, _-ℤ_, _*ℤ_, +ℤ-idr}
+use lib.IntN.{ℤ, pos, negℤ, _+ℤ_, _-ℤ_, _*ℤ_, +ℤ-idr}
 use Rattle.plane.specs.Directions.{triple}
 use Rattle.plane.specs.Points.{lesser, least, normal, Same, pair, ij, plus, minus, down7, turned, of-ij}
 use Rattle.plane.specs.declared.ijk.IJK.{IJK}
@@ -76,11 +76,8 @@ ij-turned false t = ap₂ pair (row-7 (t .i) (t .j) (t .k)) (row-8 (t .i) (t .j)
 pub shift-plus : (a b m : ℤ) → (a +ℤ m) -ℤ (b +ℤ m) ≡ a -ℤ b
 shift-plus a b m = rw (← whole a, ← whole b, ← whole m) (simp diffs (omega arith))
 
-shift : (a b m : ℤ) → (a -ℤ m) -ℤ (b -ℤ m) ≡ a -ℤ b
-shift a b m = rw (← whole a, ← whole b, ← whole m) (simp diffs (omega arith))
-
 pub ij-normal : (t : IJK) → ij (normal t) ≡ ij t
-ij-normal t = ap₂ pair (shift (t .i) (t .k) (least t)) (shift (t .j) (t .k) (least t))
+ij-normal t = ap₂ pair (shift-plus (t .i) (t .k) (negℤ (least t))) (shift-plus (t .j) (t .k) (negℤ (least t)))
 
 module _ (a b c a' b' c' : ℤ) (p : a -ℤ c ≡ a' -ℤ c') (q : b -ℤ c ≡ b' -ℤ c') where
   level : (z z' : ℤ) → z -ℤ c ≡ z' -ℤ c' → z -ℤ lesser a (lesser b c) ≡ z' -ℤ lesser a' (lesser b' c')

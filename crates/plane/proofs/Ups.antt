@@ -17,7 +17,7 @@ use Rattle.plane.proofs.Sevenths.{nearest-near, nearest-little}
 use Rattle.plane.proofs.Normal.{normal-least}
 use Rattle.plane.proofs.Distances.{span}
 use Rattle.plane.proofs.Units.{small-unit, unit-normal}
-use Rattle.plane.proofs.Neighbours.{neighbour-zero, unit-cancel, differs}
+use Rattle.plane.proofs.Neighbours.{cancelled, neighbour-zero, unit-cancel, differs}
 
 -- up, of pairs
 abbrev pub up-ij : Bool → IJ → IJ
@@ -79,12 +79,8 @@ one-way o s t d e hd he h =
     (ij-same s t (r .0), r .1)
 
 -- and in some way: what is left of a point over the down image of its up is a digit
-module _ (x y : ℤ) where
-  back-law : y +ℤ (x -ℤ y) ≡ x
-  back-law = rw (← whole x, ← whole y) (simp diffs (omega arith))
-
-  rest-law : (pos 7 *ℤ x +ℤ y) -ℤ pos 7 *ℤ x ≡ y
-  rest-law = rw (← whole x, ← whole y) (simp diffs (omega arith))
+back-law : (x y : ℤ) → y +ℤ (x -ℤ y) ≡ x
+back-law x y = rw (← whole x, ← whole y) (simp diffs (omega arith))
 
 left-little : (o : Bool) (p : IJ) → Little (sevenfold o (p ⊖ down-ij o (up-ij o p)))
 left-little o p =
@@ -93,8 +89,8 @@ left-little o p =
     let e : sevenfold o p ≡ pair (pos 7 *ℤ q .i +ℤ sevenfold o r .i) (pos 7 *ℤ q .j +ℤ sevenfold o r .j) =
     ap (sevenfold o) (sym (ap₂ pair (back-law (p .i) (down-ij o q .i)) (back-law (p .j) (down-ij o q .j)))) ∙ sevenfold-down o q r in
     record {
-      i = subst (λ (z : ℤ). natAbs z ≤ 3) (ap (λ (n : IJ). n .i -ℤ pos 7 *ℤ q .i) e ∙ rest-law (q .i) (sevenfold o r .i)) (nearest-near (sevenfold o p .i));
-      j = subst (λ (z : ℤ). natAbs z ≤ 3) (ap (λ (n : IJ). n .j -ℤ pos 7 *ℤ q .j) e ∙ rest-law (q .j) (sevenfold o r .j)) (nearest-near (sevenfold o p .j));
+      i = subst (λ (z : ℤ). natAbs z ≤ 3) (ap (λ (n : IJ). n .i -ℤ pos 7 *ℤ q .i) e ∙ cancelled (pos 7 *ℤ q .i) (sevenfold o r .i)) (nearest-near (sevenfold o p .i));
+      j = subst (λ (z : ℤ). natAbs z ≤ 3) (ap (λ (n : IJ). n .j -ℤ pos 7 *ℤ q .j) e ∙ cancelled (pos 7 *ℤ q .j) (sevenfold o r .j)) (nearest-near (sevenfold o p .j));
     }
 
 -- so close to 0 are the digits only

@@ -26,14 +26,6 @@ largest-requires c κs = search needs
 tested : (p n : IJK) (l : ℤ) (b : Bool) → n ≡ normal p → l ≡ largest n → leZ l (pos 1) ≡ b → leZ (largest (normal p)) (pos 1) ≡ b
 tested p n l b en el e = ap (λ (z : ℤ). leZ z (pos 1)) (sym (el ∙ ap largest en)) ∙ e
 
-direction-of-unit-requires : tie.Need-direction-of-unit-requires
-direction-of-unit-requires c κs =
-    let p = c .before .before .before .args .p in
-    let n = c .before .before .normalize in
-    let l = c .before .largest .ensures in
-    subst (λ (m : IJK). (value m < 7) × (m ≡ unit (value m))) (sym (n .ensures))
-    (small-unit (normal p) (normal-least p) (subst T (sym (tested p (n .result) (c .before .largest .result) true (n .ensures) (l .0) (simp (toZ-ofZ, l .1) at (c .if1 .taken)))) tt))
-
 returns : tie.Need-returns
 returns c =
     let t = c .before in
@@ -49,6 +41,14 @@ returns-2 c =
     let n = c .before .before .normalize in
     let l = c .before .largest .ensures in
     ap (λ (b : Bool). cond b (Found (direction (value (normal p)))) NotUnit) (sym (tested p (n .result) (c .before .largest .result) false (n .ensures) (l .0) (simp (toZ-ofZ, l .1) at (c .if1 .left))))
+
+direction-of-unit-requires : tie.Need-direction-of-unit-requires
+direction-of-unit-requires c κs =
+    let p = c .before .before .before .args .p in
+    let n = c .before .before .normalize in
+    let l = c .before .largest .ensures in
+    subst (λ (m : IJK). (value m < 7) × (m ≡ unit (value m))) (sym (n .ensures))
+    (small-unit (normal p) (normal-least p) (subst T (sym (tested p (n .result) (c .before .largest .result) true (n .ensures) (l .0) (simp (toZ-ofZ, l .1) at (c .if1 .taken)))) tt))
 
 pub direction-of-spec : {M : Type 1} → statement M
 direction-of-spec =

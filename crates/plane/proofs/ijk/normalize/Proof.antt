@@ -55,6 +55,12 @@ at c =
     let s = c .before .before .before .before .before in
     known (s .args .p .i) (s .args .p .j) (s .args .p .k) (c .before .lesser .result) (c .lesser2 .result) (s .pre .i) (s .pre .j) (s .pre .k) (c .before .lesser .ensures) (c .lesser2 .ensures)
 
+returns : tie.Need-returns
+returns c =
+    let h = at c in
+    let p = c .before .before .before .before .before .args .p in
+    simp (toZ-ofZ, h .fi, h .fj, h .fk, h .fm, h .di, h .dj, h .dk) (ap (λ (m : ℤ). triple (p .i -ℤ m) (p .j -ℤ m) (p .k -ℤ m)) (h .low))
+
 sub-t6 : tie.Need-sub-t6
 sub-t6 c = let h = at c in simp (toZ-ofZ, h .fi, h .fm) (h .di)
 
@@ -63,12 +69,6 @@ sub-t7 c = let h = at c in simp (toZ-ofZ, h .fj, h .fm) (h .dj)
 
 sub-t8 : tie.Need-sub-t8
 sub-t8 c = let h = at c in simp (toZ-ofZ, h .fk, h .fm) (h .dk)
-
-returns : tie.Need-returns
-returns c =
-    let h = at c in
-    let p = c .before .before .before .before .before .args .p in
-    simp (toZ-ofZ, h .fi, h .fj, h .fk, h .fm, h .di, h .dj, h .dk) (ap (λ (m : ℤ). triple (p .i -ℤ m) (p .j -ℤ m) (p .k -ℤ m)) (h .low))
 
 pub normalize-spec : {M : Type 1} → statement M
 normalize-spec =

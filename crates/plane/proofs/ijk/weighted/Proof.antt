@@ -7,18 +7,6 @@ use Rattle.plane.proofs.Pairs.{triple-path}
 use Rattle.plane.proofs.ijk.weighted.Statement.{statement}
 use Rattle.plane.proofs.ijk.weighted.Tie as tie
 
-scaled-requires : tie.Need-scaled-requires
-scaled-requires c κs = search needs
-
-scaled-requires-2 : tie.Need-scaled-requires-2
-scaled-requires-2 c κs = search needs
-
-scaled-requires-3 : tie.Need-scaled-requires-3
-scaled-requires-3 c κs = search needs
-
-normalize-requires : tie.Need-normalize-requires
-normalize-requires c κs = search needs
-
 returns : tie.Need-returns
 returns c =
     let z = c .before in
@@ -36,6 +24,18 @@ returns c =
     (scaled-read n (p .i) (q .i) (x .scaled .result) (search (sfits-of, a)) (search (sfits-of, b)) (x .scaled .ensures))
     (scaled-read n (p .j) (q .j) (y .scaled2 .result) (search (sfits-of, a)) (search (sfits-of, b)) (y .scaled2 .ensures))
     (scaled-read n (p .k) (q .k) (z .scaled3 .result) (search (sfits-of, a)) (search (sfits-of, b)) (z .scaled3 .ensures)))
+
+scaled-requires : tie.Need-scaled-requires
+scaled-requires c κs = search needs
+
+scaled-requires-2 : tie.Need-scaled-requires-2
+scaled-requires-2 c κs = search needs
+
+scaled-requires-3 : tie.Need-scaled-requires-3
+scaled-requires-3 c κs = search needs
+
+normalize-requires : tie.Need-normalize-requires
+normalize-requires c κs = search needs
 
 pub weighted-spec : {M : Type 1} → statement M
 weighted-spec =
