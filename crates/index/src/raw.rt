@@ -82,11 +82,20 @@ fn is_cell(n: u64) -> bool
     false
 }
 
-// The check with no branch, for numbers of which many are bad.
-pub fn check_flat(n: u64) -> Checked
+// The same number, for numbers that mostly are cells.
+fn likely_number(n: u64) -> u64
+    ensures { λ k. ⌜ (k ≤ 7) × (checkOf n ≡ cond (eqb k 0) (answered n) (refused k)) ⌝ }
+{
+    if is_cell(n) {
+        return 0;
+    }
+    refusal_number(n)
+}
+
+fn checked(n: u64, k: u64) -> Checked
+    requires { ⌜ (k ≤ 7) × (checkOf n ≡ cond (eqb k 0) (answered n) (refused k)) ⌝ }
     ensures { λ r. ⌜ told r ≡ checkOf n ⌝ }
 {
-    let k = refusal_number(n);
     if k == 0 {
         return Checked::Valid(Cell(n));
     }
@@ -97,9 +106,12 @@ pub fn check_flat(n: u64) -> Checked
 pub fn check(n: u64) -> Checked
     ensures { λ r. ⌜ told r ≡ checkOf n ⌝ }
 {
-    if is_cell(n) {
-        let cell = Cell(n);
-        return Checked::Valid(cell);
-    }
-    check_flat(n)
+    checked(n, likely_number(n))
+}
+
+// The check with no branch, for numbers of which many are bad.
+pub fn check_flat(n: u64) -> Checked
+    ensures { λ r. ⌜ told r ≡ checkOf n ⌝ }
+{
+    checked(n, refusal_number(n))
 }
