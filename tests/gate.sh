@@ -32,6 +32,8 @@ part() {
 if [ "$failed" = 0 ]; then
     part 'layout of the sources' rt fmt --check
     part 'the border of index::inside' tests/border.sh
+    part 'the wrong programs' tests/refused.sh
+    part 'the statements' tests/statements.sh
     part 'the archive' make -s lib
     part 'from C and C++' make -s test-c BUILT=1
     part 'the Python binding' make -s test-python BUILT=1

@@ -1,2 +1,3 @@
 pub mod Finers
 pub mod Rooms
+pub mod Unique
