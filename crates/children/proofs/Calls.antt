@@ -107,6 +107,11 @@ unfolding nextOf
 child-call c e z = rw (e, ne-eqb (c .left) 0 z)
 
 module _ (c : Cursor) (n p : ℕ) (s : Spot c n p) where
+  -- the cursor that is done is the same
+  pub done-cursor : c .left ≡ 0 → (z : ℤ) → z ≡ toZ w32 (ofZ w32 (c .skip)) →
+      _≡_ {A = Cursor} (record { own = c .own; target = c .target; number = c .number; skip = z; left = 0 }) c
+  done-cursor e z q = same-cursor _ _ refl refl refl (q ∙ toZ-ofZ (subst (SFits w32) (sym (s .skip)) (skip-fits n (c .number)))) (sym e)
+
   -- the cursor after the last child
   pub last-cursor : c .left ≡ 1 → (z : ℤ) → z ≡ toZ w32 (ofZ w32 (c .skip)) →
       _≡_ {A = Cursor} (record { own = c .own; target = c .target; number = c .number; skip = z; left = 0 }) (cursorAt n (c .target) (p + 1))
@@ -123,9 +128,9 @@ module _ (c : Cursor) (n p : ℕ) (s : Spot c n p) where
   read : toZ w32 (ofZ w32 (c .skip)) ≡ skipOf n (c .number)
   read = toZ-ofZ (subst (SFits w32) (sym (s .skip)) (skip-fits n (c .number))) ∙ s .skip
 
-  module _ (e₀ : c .left ≡ 0 → ⊥) (e₁ : c .left ≡ 1 → ⊥) where
+  module _ (h : 2 ≤ c .left) where
     further : suc p < countOf n (c .target)
-    further = let m = s .more e₀ in omega arith
+    further = let m = s .more (λ z. omega arith) in omega arith
 
     pub asked : Inner (c .number) (toZ w32 (ofZ w32 (c .skip))) (c .own) × (c .target ≡ resOf (c .number))
     asked =
@@ -140,7 +145,7 @@ module _ (c : Cursor) (n p : ℕ) (s : Spot c n p) where
         _≡_ {A = Cursor} (record { own = c .own; target = c .target; number = y; skip = z; left = c .left - 1 }) (cursorAt n (c .target) (p + 1))
     more-cursor y k a z q =
         let t : ℕ = c .target in
-        let m = s .more e₀ in
+        let m = s .more (λ z. omega arith) in
         let b : Following (childAt n t p) (resOf n) y k = subst (λ (x : ℕ). Following x (resOf n) y k) (s .here) (subst (λ (o : ℕ). Following (c .number) o y k) (sym (s .own)) a) in
         let w = moves.following-child n t (s .fits) (s .valid) (s .low) (s .high) p further y k b in
         let g : toZ w32 (ofZ w32 k) ≡ skipOf n (childAt n t (suc p)) = toZ-ofZ (subst (SFits w32) (sym (w .1)) (skip-fits n (childAt n t (suc p)))) ∙ w .1 in

@@ -153,21 +153,19 @@ impl Cursor {
     {
         if is_legal(self) {
             let left = self.left;
-            if left == 0 {
-                return Given::Done(self);
-            }
             let number = self.number;
-            if left == 1 {
-                return Given::Child(
+            if left < 2 {
+                let last = Cursor {
+                    own: self.own,
+                    target: self.target,
                     number,
-                    Cursor {
-                        own: self.own,
-                        target: self.target,
-                        number,
-                        skip: self.skip,
-                        left: 0,
-                    },
-                );
+                    skip: self.skip,
+                    left: 0,
+                };
+                if left == 0 {
+                    return Given::Done(last);
+                }
+                return Given::Child(number, last);
             }
             let s = advance(number, self.skip, self.own as u64, self.target as u64);
             return Given::Child(

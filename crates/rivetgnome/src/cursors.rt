@@ -122,7 +122,7 @@ pub extern "C" fn rg_next(cursor: &mut [u64; 5]) -> RgNumber
             zero: 0,
             value: 0,
         },
-        Given::Refused(_same) => RgNumber {
+        Given::Refused(_kept) => RgNumber {
             refusal: 11,
             zero: 0,
             value: 0,

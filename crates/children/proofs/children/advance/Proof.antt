@@ -80,6 +80,9 @@ returns-2 c =
     let w = c .before .before in
     back (w .before .before .before .before .before .before .before) _ _ (rounds.hit _ _ _ _ _ _ (w .before .before .before .before .before .before .loop .inv) (w .before .before .before .before .before .loop-test .taken) _ (unit (w .before .before .before)) _ _ (seen (w .before)) (w .is-skipped .ensures) (c .before .if1 .left) (c .if2 .taken))
 
+loop-again : tie.Need-loop-again Inv-loop μ-loop
+loop-again c = let w = c .before .before in rounds.again _ _ _ _ _ _ (w .before .before .before .before .before .before .loop .inv) (w .before .before .before .before .before .loop-test .taken) _ (unit (w .before .before .before)) _ _ (seen (w .before)) (w .is-skipped .ensures) (c .before .if1 .left) (c .if2 .left)
+
 mul-bits : tie.Need-mul-bits Inv-loop μ-loop
 mul-bits c = omega (arith, fits (c .before .before .before .before .before))
 
@@ -91,9 +94,6 @@ sub-r c = search needs
 
 loop-less : tie.Need-loop-less Inv-loop μ-loop
 loop-less c = search needs
-
-loop-again : tie.Need-loop-again Inv-loop μ-loop
-loop-again c = let w = c .before .before in rounds.again _ _ _ _ _ _ (w .before .before .before .before .before .before .loop .inv) (w .before .before .before .before .before .loop-test .taken) _ (unit (w .before .before .before)) _ _ (seen (w .before)) (w .is-skipped .ensures) (c .before .if1 .left) (c .if2 .left)
 
 returns-3 : tie.Need-returns-3 Inv-loop μ-loop
 returns-3 c = back (c .before .before) _ _ (rounds.end _ _ _ _ _ _ (c .before .loop .inv) (c .loop-test .left))

@@ -1,9 +1,17 @@
 -- `children::count::count_down` meets its contract. Assumes nothing.
 use borrow.Author.Needs.{needs}
+use mathlib.Core.Path.{_≡_}
+use mathlib.Core.Bool.{Bool, true}
+use Prim.Native.Nat.{ℕ, _+_, _-_, _*_, _/_, _^_}
 use native.Mathlib.Nat.{one-le-pow, pow-le-pow-right}
 use native.Mathlib.Omega.{arith}
+use Rattle.children.specs.Descendants.{count}
 use Rattle.children.proofs.count.count_down.Statement.{statement}
 use Rattle.children.proofs.count.count_down.Tie as tie
+
+-- in the words of the call
+below-pentagon : (f : Bool) (m s : ℕ) → f ≡ true → s ≡ 7 ^ m → 1 + 5 * (s - 1) / 6 ≡ count f m
+below-pentagon f m s e k = rw (e, k)
 
 sevens-requires : tie.Need-sevens-requires
 sevens-requires c κs = search needs
@@ -18,7 +26,7 @@ add-result : tie.Need-add-result
 add-result c = search needs
 
 returns : tie.Need-returns
-returns c = rw (c .if1 .taken, c .before .sevens .ensures)
+returns c = below-pentagon _ _ _ (c .if1 .taken) (c .before .sevens .ensures)
 
 returns-2 : tie.Need-returns-2
 returns-2 c = rw (c .if1 .left) (c .before .sevens .ensures)

@@ -46,6 +46,12 @@ is-counted-requires r κs =
     let s = r .before .before .before .before .before .before .before .before in
     judging.p-fits _ _ (omega arith) (s .pre .0) (s .pre .1) _ _ _ _ _ _ _ _ (r .before .before .before .before .before .before .before .number-of .ensures) (r .before .before .before .before .before .resolution-number .ensures) (r .before .before .before .before .before .before .resolution-of .ensures) (r .before .before .before .before .resolution .ensures) (r .before .before .before .ancestor .ensures) (r .before .before .is-pentagon .ensures) (r .before .count-down .ensures) (r .rank-of .ensures)
 
+returns : tie.Need-returns
+returns c =
+    let r = c .before .before .before .before .before in
+    let s = r .before .before .before .before .before .before .before .before in
+    judging.all-counted _ _ (omega arith) (s .pre .0) (s .pre .1) _ _ _ _ _ _ _ _ (r .before .before .before .before .before .before .before .number-of .ensures) (r .before .before .before .before .before .resolution-number .ensures) (r .before .before .before .before .before .before .resolution-of .ensures) (r .before .before .before .before .resolution .ensures) (r .before .before .before .ancestor .ensures) (r .before .before .is-pentagon .ensures) (r .before .count-down .ensures) (r .rank-of .ensures) (s .args .left) (s .args .skip) _ (c .before .before .before .before .is-counted .ensures) (c .before .before .before .if1 .taken) _ _ _ (s .fits .skip) (c .before .before .leading .ensures) (c .before .skip-count .ensures) (c .is-same .ensures)
+
 leading-requires : tie.Need-leading-requires
 leading-requires c κs = search needs
 
@@ -56,12 +62,6 @@ skip-count-requires c κs =
 
 is-same-requires : tie.Need-is-same-requires
 is-same-requires c κs = search needs
-
-returns : tie.Need-returns
-returns c =
-    let r = c .before .before .before .before .before in
-    let s = r .before .before .before .before .before .before .before .before in
-    judging.all-counted _ _ (omega arith) (s .pre .0) (s .pre .1) _ _ _ _ _ _ _ _ (r .before .before .before .before .before .before .before .number-of .ensures) (r .before .before .before .before .before .resolution-number .ensures) (r .before .before .before .before .before .before .resolution-of .ensures) (r .before .before .before .before .resolution .ensures) (r .before .before .before .ancestor .ensures) (r .before .before .is-pentagon .ensures) (r .before .count-down .ensures) (r .rank-of .ensures) (s .args .left) (s .args .skip) _ (c .before .before .before .before .is-counted .ensures) (c .before .before .before .if1 .taken) _ _ _ (s .fits .skip) (c .before .before .leading .ensures) (c .before .skip-count .ensures) (c .is-same .ensures)
 
 returns-2 : tie.Need-returns-2
 returns-2 c =

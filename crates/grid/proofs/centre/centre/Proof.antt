@@ -94,6 +94,16 @@ digit-below c =
     let l = d .before .before .before .loop in
     below _ _ (l .p) (l .r) _ _ (l .inv) (omega arith) (d .before .resolution .ensures) (d .direction .ensures)
 
+loop-again : tie.Need-loop-again Inv-loop μ-loop
+loop-again c =
+    let x = c .before in
+    let q = x .before in
+    let o = q .before in
+    let d = o .before in
+    let l = d .before .before .before .loop in
+    let e : q .down-aperture7 .result ≡ normal (down7 (o .is-odd .result) (l .p)) = q .down-aperture7 .ensures in
+    next _ _ (l .p) (l .r) _ _ (l .inv) (omega arith) (d .before .resolution .ensures) (d .direction .ensures) (o .is-odd .result) _ _ _ (o .is-odd .ensures) e (x .new-unchecked .ensures) (c .neighbor .ensures)
+
 cast-new-unchecked : tie.Need-cast-new-unchecked Inv-loop μ-loop
 cast-new-unchecked c = let b = digit-below c in omega arith
 
@@ -109,15 +119,6 @@ neighbor-requires c κs =
 
 loop-less : tie.Need-loop-less Inv-loop μ-loop
 loop-less c = omega arith
-
-loop-again : tie.Need-loop-again Inv-loop μ-loop
-loop-again c =
-    let x = c .before in
-    let q = x .before in
-    let o = q .before in
-    let d = o .before in
-    let l = d .before .before .before .loop in
-    next _ _ (l .p) (l .r) _ _ (l .inv) (omega arith) (d .before .resolution .ensures) (d .direction .ensures) (o .is-odd .result) _ _ _ (o .is-odd .ensures) (q .down-aperture7 .ensures) (x .new-unchecked .ensures) (c .neighbor .ensures)
 
 -- all digits are read
 done : (x n k r : ℕ) (p : IJK) → Inv n k p r → k ≤ r → n ≡ x → p ≡ centreOf x

@@ -91,7 +91,11 @@ up-aperture7-requires : tie.Need-up-aperture7-requires Inv-loop μ-loop
 up-aperture7-requires c κs = broad-more 200000000 250000000 _ (omega arith) (c .before .before .loop .inv .reading .sized .broad)
 
 finest-requires : tie.Need-finest-requires Inv-loop μ-loop
-finest-requires c κs = let z = c .before .before .before .loop .inv .reading .sized in (z .broad, z .within, c .up-aperture7 .ensures)
+finest-requires c κs =
+    let l = c .before .before .before .loop in
+    let z = l .inv .reading .sized in
+    let e : c .up-aperture7 .result ≡ up7 (c .before .is-odd .result) (l .q) = c .up-aperture7 .ensures in
+    (z .broad, z .within, e)
 
 value-requires : tie.Need-value-requires Inv-loop μ-loop
 value-requires c κs = tt

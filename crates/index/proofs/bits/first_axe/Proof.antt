@@ -27,17 +27,17 @@ sub-at c = omega (arith, lead (c .before .before .args .n))
 add-at : tie.Need-add-at
 add-at c = omega (arith, leading-le 64 (c .before .before .args .n % 2 ^ 45))
 
-get-direction-requires : tie.Need-get-direction-requires
-get-direction-requires c κs = search needs
-
-get-direction-requires-2 : tie.Need-get-direction-requires-2
-get-direction-requires-2 c κs = search needs
-
 returns-2 : tie.Need-returns-2
 returns-2 c =
     let n : ℕ = c .before .before .before .before .args .n in
     let e = c .before .before .before .get-resolution .ensures in
     c .get-direction .ensures ∙ ap (digit n) e ∙ beyond n (resOf n) (omega arith) (omega arith) (omega arith)
+
+get-direction-requires : tie.Need-get-direction-requires
+get-direction-requires c κs = search needs
+
+get-direction-requires-2 : tie.Need-get-direction-requires-2
+get-direction-requires-2 c κs = search needs
 
 returns-3 : tie.Need-returns-3
 returns-3 c =

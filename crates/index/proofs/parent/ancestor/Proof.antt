@@ -19,6 +19,9 @@ known c =
     let s = c .before .before .before .before in
     steps _ _ _ _ (omega arith) (s .pre .0) (s .pre .1) (c .before .before .before .get-resolution .ensures) (c .before .before .place .ensures)
 
+returns : tie.Need-returns
+returns c = known c .total
+
 rem-cut : tie.Need-rem-cut
 rem-cut c = known c .one
 
@@ -36,9 +39,6 @@ mul-above c = search needs
 
 sub-t10 : tie.Need-sub-t10
 sub-t10 c = known c .above
-
-returns : tie.Need-returns
-returns c = known c .total
 
 pub ancestor-spec : {M : Type 1} → statement M
 ancestor-spec =

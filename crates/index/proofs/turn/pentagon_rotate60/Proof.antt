@@ -39,7 +39,8 @@ returns : tie.Need-returns
 returns c =
     let f = c .before .before in
     let s = f .before .before in
-    law (s .args .ccw) (s .args .c .0) _ _ _ _ (f .before .sel .ensures) (f .first-axe .ensures) (c .before .sel2 .ensures) (c .rotate60 .ensures)
+    let b : f .before .sel .result ≡ cond (s .args .ccw) 3 5 = f .before .sel .ensures in
+    law (s .args .ccw) (s .args .c .0) _ _ _ _ b (f .first-axe .ensures) (c .before .sel2 .ensures) (c .rotate60 .ensures)
 
 pub pentagon-rotate60-spec : {M : Type 1} → statement M
 pentagon-rotate60-spec =
