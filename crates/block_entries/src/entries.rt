@@ -9,7 +9,7 @@ ghost use Rattle.cell_entries.specs.Cells.{positionOf, ancestorOf};
 use cell_entries::ancestor;
 use cell_entries::below;
 use entry::Number;
-use index::inside::number_of;
+use index::inside::likely_number;
 use index::inside::refusal;
 
 // One of the two lent blocks has fewer than n elements.
@@ -26,11 +26,12 @@ fn is_short(n: usize, values: usize, refusals: usize) -> bool
 fn kept(raw: u64) -> Number
     ensures { λ r. ⌜ toldNumber r ≡ checkOf raw ⌝ }
 {
-    let a = index::check(raw);
-    let index::Checked::Valid(cell) = a else {
-        return Number::Refused(a.refusal());
-    };
-    Number::Is(number_of(cell))
+    let k = likely_number(raw);
+    if k == 0 {
+        return Number::Is(raw);
+    }
+    let x = refusal(k as u16);
+    Number::Refused(x)
 }
 
 pub fn check_block(cells: &[u64], values: &mut [u64], refusals: &mut [u16]) -> Number

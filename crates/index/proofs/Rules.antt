@@ -30,6 +30,13 @@ module _ {A : Type 0} where
   numbered m j k k' true t' rules a l u e q h = rw (e, q, ne-eqb j 0 (λ p. omega arith)) (u, refl)
   numbered m j k k' false t' rules a l u e q h = rw (e, q) (h refl)
 
+  -- a refusal's number, or 0
+  pub number-answered : (a : A) (k : ℕ) → k ≡ 0 → cond (eqb k 0) (answered a) (refused k) ≡ answered a
+  number-answered a k e = rw e
+
+  pub number-refused : (a : A) (k : ℕ) → (k ≡ 0 → ⊥) → cond (eqb k 0) (answered a) (refused k) ≡ refused k
+  number-refused a k h = rw (ne-eqb k 0 h)
+
   pub refused-inj : {j k : ℕ} → _≡_ {A = Outcome A} (refused j) (refused k) → j ≡ k
   refused-inj e = cc
 

@@ -1,35 +1,31 @@
 -- `block_entries::entries::kept` meets its contract. Assumes nothing.
 use borrow.Author.Needs.{needs}
-use mathlib.Core.Path.{sym, ap, _∙_}
-use Prim.Native.Nat.{ℕ}
-use Rattle.index.specs.Refusals.{answered, refused}
-use Rattle.index.specs.Check.{told}
-use Rattle.index.proofs.Answers.{of-refusal}
+use mathlib.Core.Path.{_≡_, sym, ap, _∙_}
+use native.Mathlib.Omega.{arith}
+use Rattle.index.specs.Refusals.{refused}
+use Rattle.index.proofs.Rules.{number-answered, number-refused}
 use Rattle.block_entries.proofs.entries.kept.Statement.{statement}
 use Rattle.block_entries.proofs.entries.kept.Tie as tie
 
-check-requires : tie.Need-check-requires
-check-requires c κs = search needs
+likely-number-requires : tie.Need-likely-number-requires
+likely-number-requires c κs = search needs
 
-enum-known-a : tie.Need-enum-known-a
-enum-known-a c = search needs
+returns : tie.Need-returns
+returns c =
+    let k = c .before .likely-number in
+    let e : k .result ≡ 0 = omega arith in
+    sym (k .ensures .1 ∙ number-answered (c .before .before .args .raw) (k .result) e)
 
-enum-told : tie.Need-enum-told
-enum-told c = search needs
+cast-refusal : tie.Need-cast-refusal
+cast-refusal c = search needs
 
 refusal-requires : tie.Need-refusal-requires
 refusal-requires c κs = search needs
 
-returns : tie.Need-returns
-returns c =
-    let a = c .before .before .before .check in
-    ap refused (c .refusal .ensures) ∙ sym (of-refusal (c .before .before .before .before .args .raw) (a .result) (c .before .before .match .keys2) (a .ensures))
-
-number-of-requires : tie.Need-number-of-requires
-number-of-requires c κs = search needs
-
 returns-2 : tie.Need-returns-2
-returns-2 c = let a = c .before .before .before .before .check in ap answered (c .number-of .ensures) ∙ sym (ap told (c .before .before .a .given .1)) ∙ a .ensures
+returns-2 c =
+    let k = c .before .before .likely-number in
+    ap refused (c .refusal .ensures) ∙ sym (k .ensures .1 ∙ number-refused (c .before .before .before .args .raw) (k .result) (λ z. omega arith))
 
 pub kept-spec : {M : Type 1} → statement M
-kept-spec = tie.close (tie.spec check-requires enum-known-a enum-told refusal-requires returns number-of-requires returns-2)
+kept-spec = tie.close (tie.spec likely-number-requires returns cast-refusal refusal-requires returns-2)
