@@ -3,19 +3,7 @@
 LC_ALL=C
 export LC_ALL
 hexline=${1:-target/bin/hexline}
-passed=0
-failed=0
-
-# same NAME WANTED GOT
-same() {
-    if [ "$2" = "$3" ]; then
-        passed=$((passed + 1))
-    else
-        failed=$((failed + 1))
-        echo "$1: expected '$2', found '$3'" | head -c 400
-        echo
-    fi
-}
+. "$(dirname "$0")/same.sh"
 
 # the answers, each with a comma behind it
 answers() {

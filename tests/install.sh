@@ -6,18 +6,7 @@ LC_ALL=C
 export LC_ALL
 work=$(mktemp -d) || exit 1
 trap 'rm -rf "$work"' EXIT
-passed=0
-failed=0
-
-# same NAME WANTED GOT
-same() {
-    if [ "$2" = "$3" ]; then
-        passed=$((passed + 1))
-    else
-        failed=$((failed + 1))
-        echo "$1: expected '$2', found '$3'"
-    fi
-}
+. tests/same.sh
 
 files() {
     (cd "$1" && find . ! -type d | sort | tr '\n' ' ')
