@@ -67,13 +67,15 @@ pub fn normalise(p: IJK) -> Point
 pub fn neighbour(p: IJK, direction: u32) -> Point
     ensures { λ r. ⌜ toldPoint r ≡ neighbourOf p direction ⌝ }
 {
-    let a = head(direction);
-    let Heading::To(d) = a else {
-        return Point::Refused(refusal(13));
+    let heading = head(direction);
+    let place = locate(p);
+    let no_way = refusal(13);
+    let too_far = refusal(14);
+    let Heading::To(d) = heading else {
+        return Point::Refused(no_way);
     };
-    let b = locate(p);
-    let Place::Within(at) = b else {
-        return Point::Refused(refusal(14));
+    let Place::Within(at) = place else {
+        return Point::Refused(too_far);
     };
     Point::At(ijk::neighbor(at, d))
 }

@@ -2,6 +2,7 @@
 use borrow.Author.Needs.{needs}
 use mathlib.Core.Path.{subst}
 use Prim.Native.Nat.{ℕ, _≤_, _<_}
+use native.Mathlib.Omega.{arith}
 use lib.ListN.{length}
 use Rattle.cell_entries.proofs.Rooms.{no-room, room}
 use Rattle.cell_entries.proofs.entries.fill.Statement.{statement}
@@ -14,7 +15,9 @@ refusal-requires : tie.Need-refusal-requires
 refusal-requires c κs = search needs
 
 list-requires : tie.Need-list-requires
-list-requires c κs = search needs
+list-requires c κs =
+    let s = c .before .before .before .before in
+    (s .pre .0, s .pre .1, s .pre .2, omega (arith, c .before .before .children-count .ensures, c .before .if1 .left))
 
 same-length : tie.Need-same-length
 same-length c = search needs

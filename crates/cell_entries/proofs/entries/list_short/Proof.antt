@@ -43,9 +43,6 @@ add-target c = search needs
 refusal-requires-2 : tie.Need-refusal-requires-2
 refusal-requires-2 c κs = search needs
 
-resolution-requires : tie.Need-resolution-requires
-resolution-requires c κs = search needs
-
 same-length : tie.Need-same-length
 same-length c = search needs
 
@@ -83,6 +80,9 @@ returns-2 c =
     let e : refused (c .refusal2 .result .0) ≡ listShortOf (s .raw) (length b) =
     ap refused (c .refusal2 .ensures) ∙ sym (past-cell (s .raw) (more (s .raw) (length b)) _ (cell d .1) ∙ hit _ _ _ _ (lt-ltb _ _ (subst (λ (x : ℕ). 15 < x) (target r) (c .before .if1 .taken)))) in
     (e, untouched _ _ (s .raw) (resOf (s .raw) + 1) b (sym e))
+
+resolution-requires : tie.Need-resolution-requires
+resolution-requires c κs = search needs
 
 fill-requires : tie.Need-fill-requires
 fill-requires c κs =
