@@ -6,8 +6,8 @@ use lib.ListN.{length, drop}
 use borrow.Author.Tests.{lt-ltb, le-ltb}
 use Rattle.index.specs.Refusals.{Outcome, answered, refused}
 use Rattle.index.proofs.Rules.{past, hit, none-answered}
-use Rattle.children.specs.Descendants.{countOf}
-use Rattle.children.specs.Positions.{listing}
+use Rattle.descent.specs.Descendants.{countOf}
+use Rattle.descent.specs.Positions.{listing}
 use Rattle.cell_entries.specs.Cells.{roomOf, afterwards}
 
 -- what is refused leaves the buffer as it was

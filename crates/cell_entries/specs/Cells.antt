@@ -8,8 +8,8 @@ use Rattle.index.specs.Layout.{resOf}
 use Rattle.index.specs.Refusals.{Rule, _when_, Outcome, answered, refused, judged}
 use Rattle.index.specs.Check.{cellRules}
 use Rattle.index.specs.Ancestor as ancestor
-use Rattle.children.specs.Descendants as descendants
-use Rattle.children.specs.Positions as positions
+use Rattle.descent.specs.Descendants as descendants
+use Rattle.descent.specs.Positions as positions
 use Rattle.children.specs.Cursors.{cursorAt}
 use Rattle.children.specs.declared.children.Cursor.{Cursor}
 use Rattle.entry.specs.Rules.{resolutionRule}

@@ -10,7 +10,7 @@ ghost use Rattle.cell_entries.specs.Cells.{validOf, countOf, childAtOf, 
 use crate::finer::Wanted;
 use crate::finer::finer;
 use children::Cursor;
-use children::Found;
+use ranks::Found;
 use children::Given;
 use entry::Checked;
 use entry::Number;
@@ -40,7 +40,7 @@ pub fn count(raw: u64, target: u32) -> Number
     let Wanted::At(cell, t) = a else {
         return Number::Refused(a.refusal());
     };
-    Number::Is(children::children_count(cell, t))
+    Number::Is(descent::children_count(cell, t))
 }
 
 pub fn child_at(raw: u64, target: u32, position: u64) -> Number
@@ -50,10 +50,10 @@ pub fn child_at(raw: u64, target: u32, position: u64) -> Number
     let Wanted::At(cell, t) = a else {
         return Number::Refused(a.refusal());
     };
-    if children::children_count(cell, t) <= position {
+    if descent::children_count(cell, t) <= position {
         return Number::Refused(refusal(11));
     }
-    Number::Is(number_of(children::child_at(cell, t, position)))
+    Number::Is(number_of(ranks::child_at(cell, t, position)))
 }
 
 pub fn cursor(raw: u64, target: u32) -> Started
@@ -77,11 +77,11 @@ fn fill(cell: Cell, t: Resolution, buf: &mut [u64]) -> Number
     requires { ⌜ Valid (cell .0) × (resOf (cell .0) ≤ t .0) × (t .0 ≤ 15) ⌝ }
     ensures { λ r. ⌜ (toldNumber r ≡ roomOf (cell .0) (t .0) (length (now (buf .entry)))) × (now (buf .exit) ≡ afterwards (roomOf (cell .0) (t .0) (length (now (buf .entry)))) (cell .0) (t .0) (now (buf .entry))) ⌝ }
 {
-    let n = children::children_count(cell, t);
+    let n = descent::children_count(cell, t);
     if (buf.len() as u64) < n {
         return Number::Refused(refusal(10));
     }
-    children::list(cell, t, buf);
+    listing::list(cell, t, buf);
     Number::Is(n)
 }
 
@@ -121,7 +121,7 @@ pub fn below(first: u64, a: index::Checked, second: u64) -> Number
     let index::Checked::Valid(under) = b else {
         return Number::Refused(b.refusal());
     };
-    let f = children::position(cell, under);
+    let f = ranks::position(cell, under);
     let Found::At(p) = f else {
         return Number::Refused(refusal(12));
     };

@@ -15,20 +15,20 @@ use Rattle.index.specs.Refusals.{Outcome, answered, refused}
 use Rattle.index.specs.Check.{cellRules, checkOf}
 use Rattle.index.proofs.Rules.{answered-clear}
 use Rattle.index.proofs.Validity.{clear-valid}
-use Rattle.children.specs.Descendants.{Descendant, countOf}
-use Rattle.children.specs.Positions.{childAt, positionOf}
+use Rattle.descent.specs.Descendants.{Descendant, countOf}
+use Rattle.descent.specs.Positions.{childAt, positionOf}
 use Rattle.children.specs.Skips.{skipOf, Inner, Following}
 use Rattle.children.specs.Cursors.{cursorAt, ownerOf, accepted, counted, legal, nextOf}
 use Rattle.children.specs.Skips.{sameZ}
 use Rattle.children.specs.declared.children.Cursor.{Cursor}
 use Rattle.children.specs.declared.children.Given.the-variants.{Child, Done, Refused}
-use Rattle.children.proofs.Start.{child-res}
-use Rattle.children.proofs.Exact.{complete}
-use Rattle.children.proofs.Ancestors.{and-parts, ancestor-above}
+use Rattle.descent.proofs.Start.{child-res}
+use Rattle.descent.proofs.Exact.{complete}
+use Rattle.descent.proofs.Ancestors.{and-parts, ancestor-above}
 use Rattle.children.proofs.Moves as moves
 use Rattle.children.proofs.Moves.{skip-fits}
 use Rattle.children.proofs.Stands.{same-cursor, cursor-at, cursor-end}
-use Rattle.children.proofs.Ancestors.{own-is, owner-fits, owner-valid}
+use Rattle.descent.proofs.Ancestors.{own-is, owner-fits, owner-valid}
 
 -- a cursor over the descendants of n that stands at the child of position p
 pub record Spot (c : Cursor) (n p : ℕ) : Type 0 where

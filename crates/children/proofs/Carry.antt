@@ -11,12 +11,12 @@ use lib.IntN.{ℤ, pos, negsuc, predℤ}
 use lib.ListN.{length, length-append}
 use borrow.Author.Tests.{lt-ltb, le-ltb, eq-eqb, ne-eqb}
 use Rattle.index.specs.View.{octal, first}
-use Rattle.children.specs.Descendants.{count}
-use Rattle.children.specs.Positions.{below}
+use Rattle.descent.specs.Descendants.{count}
+use Rattle.descent.specs.Positions.{below}
 use Rattle.children.specs.Skips.{lead, sameZ}
-use Rattle.children.proofs.Counts.{up}
-use Rattle.children.proofs.Below.{first-zero, first-far}
-use Rattle.children.proofs.Strings.{first-append}
+use Rattle.descent.proofs.Counts.{up}
+use Rattle.descent.proofs.Below.{first-zero, first-far}
+use Rattle.descent.proofs.Strings.{first-append}
 
 -- the digit 1 of resolution r is skipped
 abbrev pub skipsAt : ℤ → ℕ → Bool

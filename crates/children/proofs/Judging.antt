@@ -16,14 +16,14 @@ use Rattle.index.specs.Refusals.{refused}
 use Rattle.index.specs.Check.{checkOf}
 use Rattle.index.proofs.Runs.{length-used}
 use Rattle.index.proofs.Validity.{valid-accepted}
-use Rattle.children.specs.Descendants.{pentagon, count, countOf}
-use Rattle.children.specs.Positions.{rank, seg, positionOf}
+use Rattle.descent.specs.Descendants.{pentagon, count, countOf}
+use Rattle.descent.specs.Positions.{rank, seg, positionOf}
 use Rattle.children.specs.Skips.{lead, skipOf}
 use Rattle.children.specs.Cursors.{accepted, counted, placed, legal}
 use Rattle.children.specs.Skips.{sameZ}
 use Rattle.children.specs.declared.children.Cursor.{Cursor}
-use Rattle.children.proofs.Start.{pos-fits}
-use Rattle.children.proofs.Ancestors.{own-is, owner-fits, owner-valid, owner-low, among-children}
+use Rattle.descent.proofs.Start.{pos-fits}
+use Rattle.descent.proofs.Ancestors.{own-is, owner-fits, owner-valid, owner-low, among-children}
 use Rattle.children.proofs.Carry.{lead-le}
 use Rattle.children.proofs.Moves.{skip-fits}
 

@@ -13,7 +13,7 @@ use Rattle.index.proofs.Runs.{run, octal-used, length-used}
 use Rattle.index.proofs.View.{run-lt}
 use Rattle.children.specs.Skips.{lead}
 use Rattle.children.proofs.Carry.{lead-none, lead-cons, first-cons, first-rest}
-use Rattle.children.proofs.Shifts.{digits-long}
+use Rattle.descent.proofs.Shifts.{digits-long}
 
 abbrev Blank : ℕ → ℕ → Type 0
 Blank n k = (octal (used n k) ≡ 0) × (first (used n k) ≡ 0)

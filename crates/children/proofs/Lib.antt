@@ -1,12 +1,3 @@
-pub mod Strings
-pub mod Counts
-pub mod Below
-pub mod Start
-pub mod Tab
-pub mod Ranks
-pub mod Exact
-pub mod Whole
-pub mod Ancestors
 pub mod Carry
 pub mod Odometer
 pub mod Rounds
@@ -15,13 +6,4 @@ pub mod Stands
 pub mod Judging
 pub mod Calls
 pub mod Reach
-pub mod Copies
-pub mod Strides
-pub mod Levels
-pub mod Filled
-pub mod Bases
-pub mod Shifts
-pub mod Ranking
-pub mod Fields
-pub mod Eights
 pub mod Leads

@@ -17,14 +17,14 @@ use Rattle.index.specs.View.{used, octal, first}
 use Rattle.plane.specs.Strings.{Digits}
 use Rattle.index.proofs.Runs.{place, place-suc, length-used}
 use Rattle.index.proofs.View.{first-used}
-use Rattle.children.specs.Descendants.{pentagon, countOf}
-use Rattle.children.specs.Positions.{below, childAt, positionOf}
+use Rattle.descent.specs.Descendants.{pentagon, countOf}
+use Rattle.descent.specs.Positions.{below, childAt, positionOf}
 use Rattle.children.specs.Skips.{lead, skipOf, Inner, Following}
 use Rattle.children.proofs.Carry.{octs, carried, fallen, Advanced}
-use Rattle.children.proofs.Below.{length-below, digits-below, first-zero}
-use Rattle.children.proofs.Start.{child-fits, child-valid, child-res, child-used, child-sum, some-child}
-use Rattle.children.proofs.Exact.{and-zero, position-child}
-use Rattle.children.proofs.Ancestors.{own-is, owner-fits, owner-valid, owner-low, among-children, ancestor-child}
+use Rattle.descent.proofs.Below.{length-below, digits-below, first-zero}
+use Rattle.descent.proofs.Start.{child-fits, child-valid, child-res, child-used, child-sum, some-child}
+use Rattle.descent.proofs.Exact.{and-zero, position-child}
+use Rattle.descent.proofs.Ancestors.{own-is, owner-fits, owner-valid, owner-low, among-children, ancestor-child}
 use Rattle.children.proofs.Carry.{mark, step, lead-le, lead-none, lead-append}
 
 -- the used digits, read off the number by division

@@ -15,17 +15,17 @@ use borrow.Author.Tests.{eq-eqb, ne-eqb, le-leb}
 use Rattle.index.specs.Layout.{resOf, Valid}
 use Rattle.index.specs.Ancestor.{ancestorOf}
 use Rattle.index.proofs.Validity.{valid-accepted}
-use Rattle.children.specs.Descendants.{countOf}
-use Rattle.children.specs.Positions.{childAt, positionOf, listing}
+use Rattle.descent.specs.Descendants.{countOf}
+use Rattle.descent.specs.Positions.{childAt, positionOf, listing}
 use Rattle.children.specs.Skips.{skipOf}
 use Rattle.children.specs.Cursors.{cursorAt, ownerOf, accepted, legal, nextOf, handed, after, Made}
 use Rattle.children.specs.Skips.{sameZ}
 use Rattle.children.specs.declared.children.Cursor.{Cursor}
 use Rattle.children.specs.declared.children.Given.the-variants.{Child, Done, Refused}
-use Rattle.children.proofs.Start.{some-child, child-valid, child-res}
-use Rattle.children.proofs.Exact.{position-child}
-use Rattle.children.proofs.Whole.{listing-at}
-use Rattle.children.proofs.Ancestors.{ancestor-child}
+use Rattle.descent.proofs.Start.{some-child, child-valid, child-res}
+use Rattle.descent.proofs.Exact.{position-child}
+use Rattle.descent.proofs.Whole.{listing-at}
+use Rattle.descent.proofs.Ancestors.{ancestor-child}
 use Rattle.children.proofs.Stands.{same-cursor, cursor-at, cursor-end}
 use Rattle.children.proofs.Calls.{Spot, legal-spot, done-call, child-given, refused-call}
 

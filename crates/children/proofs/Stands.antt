@@ -4,8 +4,8 @@ use Prim.Native.Nat.{ℕ, _-_, _≤_, _<_, min}
 use native.Mathlib.Nat.{min-eq-left, min-eq-right}
 use native.Mathlib.Omega.{arith}
 use Rattle.index.specs.Layout.{resOf}
-use Rattle.children.specs.Descendants.{countOf}
-use Rattle.children.specs.Positions.{childAt}
+use Rattle.descent.specs.Descendants.{countOf}
+use Rattle.descent.specs.Positions.{childAt}
 use Rattle.children.specs.Skips.{skipOf}
 use Rattle.children.specs.Cursors.{cursorAt}
 use Rattle.children.specs.declared.children.Cursor.{Cursor}

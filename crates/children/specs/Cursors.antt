@@ -8,8 +8,8 @@ use Rattle.index.specs.Layout.{resOf, Valid}
 use Rattle.index.specs.Refusals.{Outcome, answered, refused}
 use Rattle.index.specs.Check.{checkOf}
 use Rattle.index.specs.Ancestor.{ancestorOf}
-use Rattle.children.specs.Descendants.{countOf}
-use Rattle.children.specs.Positions.{childAt, positionOf}
+use Rattle.descent.specs.Descendants.{countOf}
+use Rattle.descent.specs.Positions.{childAt, positionOf}
 use Rattle.children.specs.Skips.{skipOf, sameZ}
 use Rattle.children.specs.declared.children.Cursor.{Cursor}
 use Rattle.children.specs.declared.children.Given.{Given}

@@ -1,5 +1,2 @@
-pub mod Descendants
-pub mod Positions
 pub mod Skips
 pub mod Cursors
-pub mod Copies

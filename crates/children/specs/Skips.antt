@@ -10,8 +10,8 @@ use lib.ListN.{length}
 use Rattle.index.specs.Layout.{resOf, Valid}
 use Rattle.index.specs.View.{used, first}
 use Rattle.index.specs.Ancestor.{ancestorOf}
-use Rattle.children.specs.Descendants.{pentagon, countOf}
-use Rattle.children.specs.Positions.{childAt, positionOf}
+use Rattle.descent.specs.Descendants.{pentagon, countOf}
+use Rattle.descent.specs.Positions.{childAt, positionOf}
 
 -- how many digits come before the first that is not 0
 unfoldable pub lead : List ℕ → ℕ

@@ -1,20 +1,17 @@
-// Port of index/iterator/children.rs: the cursor goes from child to child on the packed number; the listing is by blocks.
+// Port of index/iterator/children.rs: the cursor goes from child to child on the packed number.
 ghost use mathlib.Core.Path.{_≡_};
 ghost use mathlib.Core.Bool.{cond, _&&_};
-ghost use mathlib.Core.List.{_++_};
 ghost use Prim.Native.Nat.{_+_, _-_, _*_, _≤_, _<_};
 ghost use lib.Dec.{eqb};
-ghost use lib.ListN.{length, drop};
 ghost use lib.IntN.{pos, negsuc, predℤ, natAbs};
 ghost use Rattle.index.specs.Layout.{Valid, resOf};
-ghost use Rattle.children.specs.Descendants.{countOf};
-ghost use Rattle.children.specs.Positions.{childAt, listing};
+ghost use Rattle.descent.specs.Descendants.{countOf};
+ghost use Rattle.descent.specs.Positions.{childAt};
 ghost use Rattle.children.specs.Skips.{sameZ, Inner, Following};
 ghost use Rattle.children.specs.Cursors.{cursorAt, nextOf};
-use crate::blocks::fill_hexagon;
-use crate::blocks::fill_pentagon;
-use crate::count::children_count;
 use crate::legal::is_legal;
+use descent::children_count;
+use descent::get_starting_state;
 use index::Cell;
 use index::Resolution;
 use index::inside::direction;
@@ -24,23 +21,6 @@ use index::inside::place;
 use index::inside::resolution;
 use index::inside::resolution_number;
 use index::inside::resolution_of;
-
-// One in the field of the resolution.
-const ONE_RESOLUTION: u64 = 0x10_0000_0000_0000;
-
-// The first child: 0 in the places between the resolutions.
-pub(crate) fn get_starting_state(c: Cell, t: Resolution) -> u64
-    requires { ⌜ Valid (c .0) × (resOf (c .0) ≤ t .0) × (t .0 ≤ 15) ⌝ }
-    ensures { λ r. ⌜ r ≡ childAt (c .0) (t .0) 0 ⌝ }
-{
-    let n = number_of(c);
-    let own = resolution_of(c);
-    let unit = place(t);
-    let span = place(own);
-    let m = resolution_number(t) - resolution_number(own);
-    let cleared = n - (span - unit);
-    cleared + m * ONE_RESOLUTION
-}
 
 // The number that the next child is made in, and the resolution where the digit 1 is skipped next, or -1.
 struct Scratch {
@@ -100,21 +80,6 @@ pub(crate) fn skip_count(pentagon: bool, z: u64) -> i32
         return z as i32;
     }
     -1
-}
-
-// All descendants of c at the resolution t.
-pub fn list(c: Cell, t: Resolution, buf: &mut [u64])
-    requires { ⌜ Valid (c .0) × (resOf (c .0) ≤ t .0) × (t .0 ≤ 15) × (countOf (c .0) (t .0) ≤ length (now buf)) ⌝ }
-    ensures { λ _. ⌜ now (buf .exit) ≡ listing (c .0) (t .0) ++ drop (countOf (c .0) (t .0)) (now (buf .entry)) ⌝ }
-{
-    let first = get_starting_state(c, t);
-    let unit = place(t);
-    let m = resolution_number(t) - resolution_number(resolution_of(c));
-    if is_pentagon(c) {
-        fill_pentagon(first, unit, m, buf);
-    } else {
-        fill_hexagon(first, unit, m, buf);
-    }
 }
 
 pub struct Cursor {

@@ -10,8 +10,7 @@ ghost use Rattle.children.specs.Skips.{lead, sameZ};
 ghost use Rattle.children.specs.Cursors.{placed, legal};
 use crate::Cursor;
 use crate::children::skip_count;
-use crate::count::count_down;
-use crate::rank::rank_of;
+use descent::count_down;
 use index::Cell;
 use index::Checked;
 use index::check;
@@ -22,6 +21,7 @@ use index::inside::place;
 use index::inside::resolution;
 use index::inside::resolution_number;
 use index::inside::resolution_of;
+use ranks::rank_of;
 
 // How many of the digits 1 to k come before the first that is not 0.
 fn leading(n: u64, k: u64) -> u64

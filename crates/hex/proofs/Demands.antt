@@ -13,9 +13,9 @@ use Rattle.index.specs.Refusals.{Rule, _when_, answered, Clear}
 use Rattle.index.specs.Check.{cellRules}
 use Rattle.index.proofs.Rules.{answered-same, answered-clear, clear-parts}
 use Rattle.index.proofs.Validity.{clear-valid}
-use Rattle.children.specs.Descendants.{countOf, Listing}
-use Rattle.children.specs.Positions.{listing}
-use Rattle.children.proofs.Whole.{whole, length-listing}
+use Rattle.descent.specs.Descendants.{countOf, Listing}
+use Rattle.descent.specs.Positions.{listing}
+use Rattle.descent.proofs.Whole.{whole, length-listing}
 use Rattle.grid.specs.Walks.{Moved, walkedOf, carryOf}
 use Rattle.grid.proofs.Walks.{walk-moved, walk-only}
 use Rattle.entry.specs.Rules.{resolutionRule, onwardRule}

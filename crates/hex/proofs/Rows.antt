@@ -9,7 +9,7 @@ use Rattle.grid.specs.Walks.{carryOf}
 use Rattle.grid.specs.Steps.{staysIn, outOfDeleted}
 use Rattle.grid.specs.Steps as steps
 use Rattle.grid.proofs.Computed.{computed}
-use Rattle.children.specs.Positions.{below, childAt, tab, listing}
+use Rattle.descent.specs.Positions.{below, childAt, tab, listing}
 use Rattle.hex.specs.Examples.{table, Holds}
 
 pub examples : Holds table

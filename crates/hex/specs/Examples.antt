@@ -4,7 +4,7 @@ use mathlib.Core.List.{List, [], _∷_}
 use Prim.Native.Nat.{ℕ}
 use lib.ListN.{take}
 use Rattle.index.specs.Refusals.{Outcome, answered, refused}
-use Rattle.children.specs.Positions.{listing}
+use Rattle.descent.specs.Positions.{listing}
 use Rattle.plane.specs.Directions.{vec}
 use Rattle.plane.specs.declared.ijk.IJK.{IJK}
 use Rattle.grid.specs.Steps.{inside, leaves}

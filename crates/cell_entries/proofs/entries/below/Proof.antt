@@ -11,9 +11,10 @@ use Rattle.index.specs.Layout.{Valid}
 use Rattle.index.specs.Refusals.{Rule, _when_, answered, refused, judged}
 use Rattle.index.specs.Check.{cellRules}
 use Rattle.index.proofs.Answers.{of-cell, of-refusal, past-cell, hit-cell}
-use Rattle.children.specs.Positions.{under, positionOf, foundOf, toldFound}
-use Rattle.children.specs.declared.rank.Found.{Found}
-use Rattle.children.proofs.rank.Found as found-type
+use Rattle.descent.specs.Positions.{under, positionOf, foundOf}
+use Rattle.ranks.specs.Told.{toldFound}
+use Rattle.ranks.specs.declared.rank.Found.{Found}
+use Rattle.ranks.proofs.rank.Found as found-type
 use Rattle.cell_entries.proofs.entries.below.Statement.{statement}
 use Rattle.cell_entries.proofs.entries.below.Tie as tie
 

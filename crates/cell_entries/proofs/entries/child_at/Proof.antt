@@ -9,8 +9,8 @@ use Rattle.index.proofs.Rules.{past, hit, none-answered}
 use mathlib.Core.Bool.{not}
 use lib.Dec.{ltb}
 use borrow.Author.Tests.{lt-ltb, le-ltb}
-use Rattle.children.specs.Descendants.{countOf}
-use Rattle.children.specs.Positions.{childAt}
+use Rattle.descent.specs.Descendants.{countOf}
+use Rattle.descent.specs.Positions.{childAt}
 use Rattle.cell_entries.proofs.Finers.{Ready, ready, asked, refuse-finer, past-finer}
 use Rattle.cell_entries.proofs.entries.child_at.Statement.{statement}
 use Rattle.cell_entries.proofs.entries.child_at.Tie as tie

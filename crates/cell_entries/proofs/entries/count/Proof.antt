@@ -6,7 +6,7 @@ use Prim.Native.Nat.{ℕ, _≤_}
 use Rattle.index.specs.Layout.{Valid, resOf}
 use Rattle.index.specs.Refusals.{answered}
 use Rattle.index.proofs.Rules.{none-answered}
-use Rattle.children.specs.Descendants.{countOf}
+use Rattle.descent.specs.Descendants.{countOf}
 use Rattle.cell_entries.proofs.Finers.{Ready, ready, asked, refuse-finer, past-finer}
 use Rattle.cell_entries.proofs.entries.count.Statement.{statement}
 use Rattle.cell_entries.proofs.entries.count.Tie as tie

@@ -5,7 +5,7 @@ use mathlib.Core.List.{[], _∷_}
 use Prim.Native.Nat.{ℕ}
 use lib.ListN.{length}
 use Rattle.index.specs.Refusals.{refused}
-use Rattle.children.specs.Descendants.{countOf}
+use Rattle.descent.specs.Descendants.{countOf}
 use Rattle.cell_entries.specs.Cells.{roomRule}
 use Rattle.cell_entries.proofs.Finers.{Ready, ready, asked, refuse-finer, past-finer}
 use Rattle.cell_entries.proofs.Rooms.{untouched, passed}

@@ -12,7 +12,7 @@ use Rattle.index.specs.Refusals.{Rule, _when_, refused, judged}
 use Rattle.index.specs.Check.{cellRules}
 use Rattle.index.proofs.Answers.{of-cell, of-refusal, past-cell, hit-cell}
 use Rattle.index.proofs.Rules.{past, hit}
-use Rattle.children.specs.Descendants.{countOf}
+use Rattle.descent.specs.Descendants.{countOf}
 use Rattle.entry.specs.Rules.{resolutionRule}
 use Rattle.cell_entries.specs.Cells.{roomRule, roomOf, listShortOf}
 use Rattle.cell_entries.proofs.Rooms.{untouched, passed}

@@ -8,10 +8,10 @@ use lib.IntN.{pos, negsuc}
 use mir.Syntax.{w32}
 use mir.Val.{SFits}
 use mir.Facts.{toZ-ofZ}
-use Rattle.children.specs.Descendants.{pentagon}
-use Rattle.children.specs.Positions.{childAt}
+use Rattle.descent.specs.Descendants.{pentagon}
+use Rattle.descent.specs.Positions.{childAt}
 use Rattle.children.specs.Skips.{skipOf}
-use Rattle.children.proofs.Start.{some-child}
+use Rattle.descent.proofs.Start.{some-child}
 use Rattle.children.proofs.Moves.{first-skip, skip-fits}
 use Rattle.children.proofs.Stands.{same-cursor, cursor-at}
 use Rattle.children.proofs.children.fresh.Statement.{statement}

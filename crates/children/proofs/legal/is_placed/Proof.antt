@@ -4,9 +4,9 @@ use mathlib.Core.Path.{sym, ap, _∙_, subst}
 use native.Mathlib.Omega.{arith}
 use Rattle.index.specs.Layout.{Valid}
 use Rattle.index.specs.Ancestor.{ancestorOf}
-use Rattle.children.proofs.Ancestors.{owner-valid}
+use Rattle.descent.proofs.Ancestors.{owner-valid}
 use Rattle.children.proofs.Judging as judging
-use Rattle.children.proofs.Ranking.{asked}
+use Rattle.ranks.proofs.Ranking.{asked}
 use Rattle.children.proofs.legal.is_placed.Statement.{statement}
 use Rattle.children.proofs.legal.is_placed.Tie as tie
 

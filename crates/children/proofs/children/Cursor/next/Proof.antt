@@ -3,7 +3,7 @@ use borrow.Author.Needs.{needs}
 use mathlib.Core.Path.{_≡_, refl, sym, ap, _∙_}
 use mathlib.Core.Bool.{true}
 use native.Mathlib.Omega.{arith}
-use Rattle.children.specs.Positions.{positionOf}
+use Rattle.descent.specs.Positions.{positionOf}
 use Rattle.children.specs.Cursors.{ownerOf, legal}
 use Rattle.children.specs.declared.children.Given.the-variants.{Done}
 use Rattle.children.proofs.Calls as calls

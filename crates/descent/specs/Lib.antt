@@ -1,0 +1,2 @@
+pub mod Descendants
+pub mod Positions

@@ -1,0 +1,4 @@
+pub mod Copies
+pub mod Strides
+pub mod Levels
+pub mod Filled

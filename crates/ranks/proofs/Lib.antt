@@ -1,0 +1,4 @@
+pub mod Bases
+pub mod Ranking
+pub mod Fields
+pub mod Eights
