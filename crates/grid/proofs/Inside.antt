@@ -19,11 +19,11 @@ use Rattle.index.specs.View.{used, pack, first, Fit}
 use Rattle.index.specs.Refusals.{Outcome, answered, refused}
 use Rattle.index.proofs.Turning.{length-turned}
 use Rattle.index.proofs.View.{fit, first-used, pack-valid, pack-base, pack-res}
-use Rattle.grid.specs.Tables.{newDigit, adjustment}
-use Rattle.grid.specs.Walks.{walked, leftOver, carryOf}
+use Rattle.walks.specs.Tables.{newDigit, adjustment}
+use Rattle.walks.specs.Walks.{walked, leftOver, carryOf}
 use Rattle.grid.specs.Steps.{Answer, inside, leaves, stepOf}
-use Rattle.grid.proofs.Tables.{from-zero}
-use Rattle.grid.proofs.Walks.{walked-zero}
+use Rattle.walks.proofs.Tables.{from-zero}
+use Rattle.walks.proofs.Walks.{walked-zero}
 use Rattle.grid.proofs.Reached.{origins, from-zeros}
 use Rattle.grid.proofs.Steps.{olds, news, leaving, staying, refusing, turning-ccw, turning-cw, fit-news, fit-turned, news-length}
 

@@ -1,11 +1,4 @@
-pub mod Tables
-pub mod Walks
 pub mod Reached
 pub mod Steps
-pub mod Centres
 pub mod Inside
 pub mod WayBack
-pub mod Reading
-pub mod Strings
-pub mod Ranges
-pub mod Computed

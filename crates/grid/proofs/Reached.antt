@@ -11,10 +11,10 @@ use Rattle.plane.specs.Strings.{Digits, odd}
 use Rattle.plane.proofs.Every.{every}
 use Rattle.index.specs.View.{first}
 use Rattle.index.proofs.Turning.{first-below}
-use Rattle.grid.specs.Tables.{newDigit, adjustment}
-use Rattle.grid.specs.Walks.{walked, leftOver}
-use Rattle.grid.proofs.Tables.{at-pair, adjusted-below}
-use Rattle.grid.proofs.Walks.{digits-walked}
+use Rattle.walks.specs.Tables.{newDigit, adjustment}
+use Rattle.walks.specs.Walks.{walked, leftOver}
+use Rattle.walks.proofs.Tables.{at-pair, adjusted-below}
+use Rattle.walks.proofs.Walks.{digits-walked}
 
 -- the first digits f of the old and g of the new string, and the direction
 reached : ℕ → ℕ → ℕ → Bool

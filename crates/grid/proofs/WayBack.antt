@@ -20,11 +20,11 @@ use Rattle.index.specs.View.{used, pack, first, Fit}
 use Rattle.index.specs.Refusals.{answered}
 use Rattle.index.proofs.Turning.{length-turned, first-turned, turned-undone}
 use Rattle.index.proofs.View.{fit, packed, pack-base, pack-res, pack-used}
-use Rattle.grid.specs.Tables.{newDigit, adjustment}
-use Rattle.grid.specs.Walks.{walked, leftOver, carryOf}
+use Rattle.walks.specs.Tables.{newDigit, adjustment}
+use Rattle.walks.specs.Walks.{walked, leftOver, carryOf}
 use Rattle.grid.specs.Steps.{inside, stepOf}
-use Rattle.grid.proofs.Tables.{at-pair, adjusted-below}
-use Rattle.grid.proofs.Walks.{assoc, length-walked, digits-walked, walked-joint, walked-only}
+use Rattle.walks.proofs.Tables.{at-pair, adjusted-below}
+use Rattle.walks.proofs.Walks.{assoc, length-walked, digits-walked, walked-joint, walked-only}
 use Rattle.grid.proofs.Steps.{olds, news, staying, turning-ccw, turning-cw, fit-news, fit-turned}
 use Rattle.grid.proofs.Inside.{Case, left, stayed, deleted, ccw, cw, cases, within, never}
 

@@ -7,7 +7,7 @@ use Rattle.plane.specs.Directions.{turns}
 use Rattle.index.specs.Layout.{baseOf, resOf, isPentagonal}
 use Rattle.index.specs.View.{used, pack, first}
 use Rattle.index.specs.Refusals.{Outcome, answered, refused}
-use Rattle.grid.specs.Walks.{walked, carryOf}
+use Rattle.walks.specs.Walks.{walked, carryOf}
 use Rattle.grid.specs.declared.algo.Stepped.{Stepped}
 use Rattle.grid.specs.declared.algo.Stepped.the-variants.{Inside, Leaves, DeletedWay}
 

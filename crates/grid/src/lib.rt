@@ -1,2 +1,5 @@
-pub mod algo;
-pub mod centre;
+// The neighbour step inside a base cell.
+mod algo;
+
+pub use algo::Stepped;
+pub use algo::step;

@@ -16,8 +16,8 @@ use Rattle.index.proofs.Validity.{clear-valid}
 use Rattle.descent.specs.Descendants.{countOf, Listing}
 use Rattle.descent.specs.Positions.{listing}
 use Rattle.descent.proofs.Whole.{whole, length-listing}
-use Rattle.grid.specs.Walks.{Moved, walkedOf, carryOf}
-use Rattle.grid.proofs.Walks.{walk-moved, walk-only}
+use Rattle.walks.specs.Walks.{Moved, walkedOf, carryOf}
+use Rattle.walks.proofs.Walks.{walk-moved, walk-only}
 use Rattle.entry.specs.Rules.{resolutionRule, onwardRule}
 use Rattle.cell_entries.specs.Cells.{finerRules, roomRule, listOf}
 use Rattle.step_entries.specs.Steps.{onwardRules, walkOf}

@@ -5,10 +5,10 @@ use Rattle.index.specs.Refusals.{judged}
 use Rattle.index.specs.Check.{some}
 use Rattle.index.specs.View.{used, octal, pack, first}
 use Rattle.plane.specs.Directions.{vec}
-use Rattle.grid.specs.Walks.{carryOf}
+use Rattle.walks.specs.Walks.{carryOf}
 use Rattle.grid.specs.Steps.{staysIn, outOfDeleted}
 use Rattle.grid.specs.Steps as steps
-use Rattle.grid.proofs.Computed.{computed}
+use Rattle.centres.proofs.Computed.{computed}
 use Rattle.descent.specs.Positions.{below, childAt, tab, listing}
 use Rattle.hex.specs.Examples.{table, Holds}
 

@@ -6,6 +6,7 @@ ghost use mir.Val.{SFits};
 ghost use Rattle.plane.specs.Points as points;
 ghost use Rattle.plane.specs.Ranges.{in-range};
 ghost use Rattle.plane.specs.Inside.{Is};
+ghost use Rattle.plane.specs.Strings.{odd};
 
 // Whether a coordinate is within the entry range.
 pub fn in_range(n: i32) -> bool
@@ -62,4 +63,11 @@ pub(crate) fn seventh(a: u8, x: i32, y: i32) -> i32
     ensures { λ r. ⌜ Is (points.nearest (pos a *ℤ x +ℤ y)) 1000000000 r ⌝ }
 {
     nearest_seventh(scaled(a, x, y))
+}
+
+// Whether a resolution is odd.
+pub fn is_odd(r: u64) -> bool
+    ensures { λ o. ⌜ o ≡ odd r ⌝ }
+{
+    r % 2 == 1
 }

@@ -11,10 +11,10 @@ use Rattle.index.specs.Refusals.{Rule, Outcome, answered, refused, judged, Clea
 use Rattle.index.specs.Check.{cellRules}
 use Rattle.index.proofs.Rules.{never, answered-clear, clear-parts}
 use Rattle.index.proofs.Validity.{clear-valid}
-use Rattle.grid.specs.Walks.{carryOf}
+use Rattle.walks.specs.Walks.{carryOf}
 use Rattle.grid.specs.Steps.{Answer, inside, leaves}
 use Rattle.grid.specs.Steps as steps
-use Rattle.grid.proofs.Walks.{walk-moved}
+use Rattle.walks.proofs.Walks.{walk-moved}
 use Rattle.grid.proofs.Inside.{Case, left, stayed, deleted, ccw, cw, cases, within}
 use Rattle.grid.proofs.Inside as inner
 use Rattle.entry.specs.Rules.{onwardRule}

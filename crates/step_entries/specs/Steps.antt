@@ -8,8 +8,8 @@ use Rattle.index.specs.Refusals.{Rule, _when_, Outcome, answered, refused, judg
 use Rattle.index.specs.Check.{cellRules}
 use Rattle.index.specs.Turns.{turnedBy, pentagonTurned}
 use Rattle.plane.specs.declared.ijk.IJK.{IJK}
-use Rattle.grid.specs.Centres as centres
-use Rattle.grid.specs.Walks.{walkedOf, carryOf}
+use Rattle.centres.specs.Centres as centres
+use Rattle.walks.specs.Walks.{walkedOf, carryOf}
 use Rattle.grid.specs.Steps as steps
 use Rattle.entry.specs.Rules.{resolutionRule, countRule, rangeRule, onwardRule}
 

@@ -4,6 +4,7 @@ ghost use mathlib.Core.Bool.{true, false};
 ghost use Rattle.entry.specs.Answers.{toldNumber, toldPoint, toldWalked, toldStepped};
 ghost use Rattle.grid.specs.Steps.{toldStep};
 ghost use Rattle.step_entries.specs.Steps.{turnOf, pentagonTurnOf, centreOf, ReadsBack, walkOf, stepOf};
+use centres::centre::Read;
 use entry::Number;
 use entry::Point;
 use entry::Stepped;
@@ -12,8 +13,6 @@ use entry::judge::Heading;
 use entry::judge::Place;
 use entry::judge::locate;
 use entry::judge::onward;
-use grid::algo;
-use grid::centre::Read;
 use index::inside;
 use index::inside::number_of;
 use index::inside::refusal;
@@ -75,7 +74,7 @@ pub fn centre(raw: u64) -> Point
     let index::Checked::Valid(cell) = a else {
         return Point::Refused(a.refusal());
     };
-    Point::At(grid::centre::centre(cell))
+    Point::At(centres::centre::centre(cell))
 }
 
 pub fn read_back(length: u32, p: IJK) -> Number
@@ -88,7 +87,7 @@ pub fn read_back(length: u32, p: IJK) -> Number
     let Place::Within(at) = a else {
         return Number::Refused(refusal(14));
     };
-    let b = grid::centre::read_back(resolution(length as u64), at);
+    let b = centres::centre::read_back(resolution(length as u64), at);
     let Read::Found(cell) = b else {
         return Number::Refused(refusal(15));
     };
@@ -106,7 +105,7 @@ pub fn walk(raw: u64, direction: u32) -> Walked
     let Heading::To(d) = b else {
         return Walked::Refused(refusal(13));
     };
-    let w = algo::walk(cell, d);
+    let w = walks::walk(cell, d);
     Walked::To(w.number, value(w.carry) as u32)
 }
 
@@ -121,16 +120,16 @@ pub fn step(raw: u64, direction: u32) -> Stepped
     let Heading::To(d) = b else {
         return Stepped::Refused(refusal(13));
     };
-    stepped(algo::step(cell, d))
+    stepped(grid::step(cell, d))
 }
 
 // The refusal gets its number.
-fn stepped(s: algo::Stepped) -> Stepped
+fn stepped(s: grid::Stepped) -> Stepped
     ensures { λ r. ⌜ toldStepped r ≡ toldStep s ⌝ }
 {
     match s {
-        algo::Stepped::Inside(cell, turn) => Stepped::Inside(number_of(cell), turn as u32),
-        algo::Stepped::Leaves(d) => Stepped::Leaves(value(d) as u32),
-        algo::Stepped::DeletedWay => Stepped::Refused(refusal(17)),
+        grid::Stepped::Inside(cell, turn) => Stepped::Inside(number_of(cell), turn as u32),
+        grid::Stepped::Leaves(d) => Stepped::Leaves(value(d) as u32),
+        grid::Stepped::DeletedWay => Stepped::Refused(refusal(17)),
     }
 }

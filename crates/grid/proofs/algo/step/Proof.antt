@@ -13,7 +13,7 @@ use Rattle.index.specs.View.{used, pack, first}
 use Rattle.index.specs.Refusals.{answered, refused}
 use Rattle.index.specs.Written.{WithDigits}
 use Rattle.index.proofs.View.{first-used, pack-valid}
-use Rattle.grid.specs.Walks.{walkedOf, carryOf}
+use Rattle.walks.specs.Walks.{walkedOf, carryOf}
 use Rattle.grid.specs.Steps.{inside, leaves, stepOf}
 use Rattle.grid.proofs.Steps.{olds, news, leaving, staying, refusing, turning-ccw, turning-cw, fit-news, fit-turned, news-digits, walked-used, walked-rest, walked-first, walked-turned}
 use Rattle.grid.proofs.algo.step.Statement.{statement}

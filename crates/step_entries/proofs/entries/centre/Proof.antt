@@ -7,7 +7,7 @@ use Rattle.index.specs.Layout.{Valid}
 use Rattle.index.specs.Refusals.{answered, refused}
 use Rattle.index.proofs.Answers.{of-cell, of-refusal, past-cell, hit-cell}
 use Rattle.index.proofs.Rules.{past, hit, none-answered}
-use Rattle.grid.specs.Centres.{centreOf}
+use Rattle.centres.specs.Centres.{centreOf}
 use Rattle.step_entries.proofs.entries.centre.Statement.{statement}
 use Rattle.step_entries.proofs.entries.centre.Tie as tie
 

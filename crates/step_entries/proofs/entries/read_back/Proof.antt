@@ -13,9 +13,9 @@ use Rattle.index.specs.Refusals.{Outcome, answered, refused, judged}
 use Rattle.index.proofs.Rules.{past, hit, none-answered}
 use Rattle.plane.specs.Ranges.{point-in-range, Within}
 use Rattle.plane.specs.declared.ijk.IJK.{IJK}
-use Rattle.grid.specs.Centres.{Reads, toldRead}
-use Rattle.grid.specs.declared.centre.Read.{Read}
-use Rattle.grid.proofs.centre.Read as read-type
+use Rattle.centres.specs.Centres.{Reads, toldRead}
+use Rattle.centres.specs.declared.centre.Read.{Read}
+use Rattle.centres.proofs.centre.Read as read-type
 use Rattle.entry.specs.Rules.{resolutionRule, rangeRule}
 use Rattle.step_entries.specs.Steps.{Under, ReadsBack}
 use Rattle.entry.proofs.Judges.{within, outside, wider}

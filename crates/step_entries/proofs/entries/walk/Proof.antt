@@ -11,7 +11,7 @@ use mathlib.Core.Bool.{_||_, false}
 use lib.Dec.{eqb, ltb}
 use Rattle.entry.specs.Rules.{onwardRule}
 use Rattle.entry.proofs.Judges.{to-onward, nowhere}
-use Rattle.grid.specs.Walks.{walkedOf, carryOf}
+use Rattle.walks.specs.Walks.{walkedOf, carryOf}
 use Rattle.step_entries.proofs.entries.walk.Statement.{statement}
 use Rattle.step_entries.proofs.entries.walk.Tie as tie
 

@@ -14,11 +14,11 @@ use Rattle.plane.proofs.Normal.{normal-same, same-test}
 use Rattle.index.specs.Layout.{Valid}
 use Rattle.index.specs.Refusals.{answered, refused}
 use Rattle.index.specs.Written.{Written}
-use Rattle.grid.specs.Centres.{Reads}
-use Rattle.grid.proofs.Centres.{within-more}
-use Rattle.grid.proofs.Reading.{Sized, Reading, sized-normal, broad-more, begun, onward, read, found, none, reads-same}
-use Rattle.grid.proofs.centre.read_back.Statement.{statement}
-use Rattle.grid.proofs.centre.read_back.Tie as tie
+use Rattle.centres.specs.Centres.{Reads}
+use Rattle.centres.proofs.Centres.{within-more}
+use Rattle.centres.proofs.Reading.{Sized, Reading, sized-normal, broad-more, begun, onward, read, found, none, reads-same}
+use Rattle.centres.proofs.centre.read_back.Statement.{statement}
+use Rattle.centres.proofs.centre.read_back.Tie as tie
 
 record Inv (m k : ℕ) (p : IJK) (n r : ℕ) (q : IJK) : Type 0 where
   begin : m ≡ 2 ^ 59 + k * 2 ^ 52 + 0 * 2 ^ 45 + (2 ^ 45 - 1)

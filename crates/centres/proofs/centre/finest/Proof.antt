@@ -16,9 +16,9 @@ use Rattle.plane.specs.declared.direction.Direction.{Direction}
 use Rattle.plane.specs.declared.ijk.Way.{Way}
 use Rattle.plane.specs.declared.ijk.Way.the-variants.{Found, NotUnit}
 use Rattle.plane.proofs.ijk.Way as way-type
-use Rattle.grid.proofs.Reading.{Sized, up-small, under-small, point-small, left-small, left-digit}
-use Rattle.grid.proofs.centre.finest.Statement.{statement}
-use Rattle.grid.proofs.centre.finest.Tie as tie
+use Rattle.centres.proofs.Reading.{Sized, up-small, under-small, point-small, left-small, left-digit}
+use Rattle.centres.proofs.centre.finest.Statement.{statement}
+use Rattle.centres.proofs.centre.finest.Tie as tie
 
 -- in the words of the calls
 module _ (o : Bool) (q up t s : IJK) (b : Broad 200000000 q) (w : Within 400000000 q) (eu : up ≡ up7 o q) where

@@ -5,15 +5,7 @@ ghost use Rattle.plane.specs.Directions.{unit};
 ghost use Rattle.plane.specs.Points.{normal, Same, plus, down7, up7};
 ghost use Rattle.plane.specs.Ranges.{Within, Broad};
 ghost use Rattle.index.specs.Layout.{Valid};
-ghost use Rattle.grid.specs.Centres.{centreOf, Reads, toldRead};
-use crate::algo::is_odd;
-
-// Resolution 0 in base cell 0: each digit is 7.
-const COARSEST: u64 = 0x0800_1fff_ffff_ffff;
-
-// One in the field of the resolution.
-const ONE_RESOLUTION: u64 = 0x10_0000_0000_0000;
-
+ghost use Rattle.centres.specs.Centres.{centreOf, Reads, toldRead};
 use index::Cell;
 use index::Resolution;
 use index::inside;
@@ -22,6 +14,13 @@ use plane::direction::Direction;
 use plane::ijk;
 use plane::ijk::IJK;
 use plane::ijk::Way;
+use plane::number::is_odd;
+
+// Resolution 0 in base cell 0: each digit is 7.
+const COARSEST: u64 = 0x0800_1fff_ffff_ffff;
+
+// One in the field of the resolution.
+const ONE_RESOLUTION: u64 = 0x10_0000_0000_0000;
 
 // The centre of a cell's used digits, whatever the base cell.
 pub fn centre(c: Cell) -> IJK

@@ -15,7 +15,7 @@ use Rattle.index.specs.Refusals.{Outcome, answered, refused}
 use Rattle.index.proofs.Runs.{length-used}
 use Rattle.index.proofs.View.{fit, pack-valid, pack-base, pack-res, pack-used}
 use Rattle.index.proofs.Loose.{bare}
-use Rattle.grid.specs.Centres.{centreOf, StringOf, Reads}
+use Rattle.centres.specs.Centres.{centreOf, StringOf, Reads}
 
 pub one-string : (r : ℕ) (p : IJK) (ds es : List ℕ) → StringOf r p ds → StringOf r p es → ds ≡ es
 one-string r p ds es a b = one-centre ds es (a .long ∙ sym (b .long)) (a .digits) (b .digits) (sym (centre-normal ds) ∙ a .point ∙ sym (b .point) ∙ centre-normal es)

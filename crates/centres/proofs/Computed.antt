@@ -16,8 +16,8 @@ use Rattle.plane.proofs.Units.{unit-value}
 use Rattle.plane.proofs.Ups.{some-way}
 use Rattle.index.specs.View.{pack}
 use Rattle.index.specs.Refusals.{Outcome, answered, refused}
-use Rattle.grid.specs.Centres.{StringOf, Reads}
-use Rattle.grid.proofs.Reading.{less-ij, longer, shorter}
+use Rattle.centres.specs.Centres.{StringOf, Reads}
+use Rattle.centres.proofs.Reading.{less-ij, longer, shorter}
 
 abbrev pub lastDigit : Bool → IJK → ℕ
 lastDigit o q = value (normal (minus q (down7 o (up7 o q))))

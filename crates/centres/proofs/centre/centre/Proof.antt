@@ -12,10 +12,10 @@ use Rattle.plane.specs.Strings.{odd, centre}
 use Rattle.plane.specs.declared.ijk.IJK.{IJK}
 use Rattle.index.specs.Layout.{digit, resOf, Valid}
 use Rattle.index.specs.View.{used}
-use Rattle.grid.specs.Centres.{centreOf}
-use Rattle.grid.proofs.Centres.{point-within, down-within, next-centre}
-use Rattle.grid.proofs.centre.centre.Statement.{statement}
-use Rattle.grid.proofs.centre.centre.Tie as tie
+use Rattle.centres.specs.Centres.{centreOf}
+use Rattle.centres.proofs.Centres.{point-within, down-within, next-centre}
+use Rattle.centres.proofs.centre.centre.Statement.{statement}
+use Rattle.centres.proofs.centre.centre.Tie as tie
 
 record Inv (n k : ℕ) (p : IJK) (r : ℕ) : Type 0 where
   cell : Valid n

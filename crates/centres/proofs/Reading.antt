@@ -32,8 +32,8 @@ use Rattle.index.proofs.Sum.{sum-base, sum-res, sum-low, sum-reserved, sum-mode
 use Rattle.index.proofs.View.{pack-valid}
 use Rattle.index.proofs.Redrawn.{redrawn-pack}
 use Rattle.index.proofs.Loose.{bare}
-use Rattle.grid.specs.Centres.{StringOf, Reads}
-use Rattle.grid.proofs.Centres.{within-more}
+use Rattle.centres.specs.Centres.{StringOf, Reads}
+use Rattle.centres.proofs.Centres.{within-more}
 
 -- sizes: the IJ form tells them
 broad-ij : (n : ℕ) (s t : IJK) → ij s ≡ ij t → Broad n t → Broad n s

@@ -1,4 +1,4 @@
--- `grid::algo::is_odd` meets its contract. Assumes nothing.
+-- `plane::number::is_odd` meets its contract. Assumes nothing.
 use mathlib.Core.Path.{_≡_, refl, sym, ap, _∙_}
 use mathlib.Core.Bool.{not}
 use mathlib.Core.Logic.{_⊎_, inl, inr, ⊎-elim}
@@ -6,9 +6,9 @@ use Prim.Native.Nat.{ℕ, zero, suc, _%_, _<_}
 use native.Mathlib.Omega.{arith}
 use lib.Dec.{eqb}
 use borrow.Author.Tests.{eq-eqb, ne-eqb}
 use Rattle.plane.specs.Strings.{odd}
-use Rattle.grid.proofs.algo.is_odd.Statement.{statement}
-use Rattle.grid.proofs.algo.is_odd.Tie as tie
+use Rattle.plane.proofs.number.is_odd.Statement.{statement}
+use Rattle.plane.proofs.number.is_odd.Tie as tie
 
 two : (m : ℕ) → m < 2 → (m ≡ 0) ⊎ (m ≡ 1)
 two zero h = inl refl

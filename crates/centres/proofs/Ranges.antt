@@ -21,7 +21,7 @@ use Rattle.plane.proofs.Sizes.{normal-within}
 use Rattle.index.specs.Layout.{resOf, Valid}
 use Rattle.index.specs.View.{used}
 use Rattle.index.proofs.View.{fit}
-use Rattle.grid.specs.Centres.{centreOf}
+use Rattle.centres.specs.Centres.{centreOf}
 
 module _ (x y : ℤ) where
   law-1 : pos 3 *ℤ (pos 2 *ℤ x +ℤ y) -ℤ (pos 3 *ℤ y -ℤ x) ≡ pos 7 *ℤ x

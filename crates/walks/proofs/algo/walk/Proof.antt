@@ -1,4 +1,4 @@
--- `grid::algo::walk` meets its contract, by the loop's laws in `Walks`. Assumes nothing.
+-- `walks::algo::walk` meets its contract, by the loop's laws in `Walks`. Assumes nothing.
 use borrow.Author.Needs.{needs}
 use mathlib.Core.Path.{_≡_, refl, sym, ap, ap₂, _∙_, subst, subst₂}
 use mathlib.Core.Bool.{Bool, true, false, cond}
@@ -8,12 +8,12 @@ use native.Mathlib.Omega.{arith}
 use Rattle.plane.specs.Strings.{odd}
 use Rattle.index.specs.Layout.{digit, resOf, Valid}
 use Rattle.index.specs.Written.{Written}
-use Rattle.grid.specs.Tables.{newDigit, adjustment}
-use Rattle.grid.specs.Walks.{walkedOf, carryOf}
-use Rattle.grid.proofs.Tables.{digit-below}
-use Rattle.grid.proofs.Walks.{Walking, begin, old-below, onward, ended, stopped, walk-ends}
-use Rattle.grid.proofs.algo.walk.Statement.{statement}
-use Rattle.grid.proofs.algo.walk.Tie as tie
+use Rattle.walks.specs.Tables.{newDigit, adjustment}
+use Rattle.walks.specs.Walks.{walkedOf, carryOf}
+use Rattle.walks.proofs.Tables.{digit-below}
+use Rattle.walks.proofs.Walks.{Walking, begin, old-below, onward, ended, stopped, walk-ends}
+use Rattle.walks.proofs.algo.walk.Statement.{statement}
+use Rattle.walks.proofs.algo.walk.Tie as tie
 
 record Inv (m k way n r c : ℕ) : Type 0 where
   cell : Valid m

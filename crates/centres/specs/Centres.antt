@@ -9,8 +9,8 @@ use Rattle.plane.specs.declared.ijk.IJK.{IJK}
 use Rattle.index.specs.Layout.{resOf}
 use Rattle.index.specs.View.{used, pack}
 use Rattle.index.specs.Refusals.{Outcome, answered, refused}
-use Rattle.grid.specs.declared.centre.Read.{Read}
-use Rattle.grid.specs.declared.centre.Read.the-variants.{Found, NoString}
+use Rattle.centres.specs.declared.centre.Read.{Read}
+use Rattle.centres.specs.declared.centre.Read.the-variants.{Found, NoString}
 
 -- it takes a cell and reads its used digits only, whatever the base cell
 unfoldable pub centreOf : ℕ → IJK

@@ -1,0 +1,2 @@
+// Centres of cells.
+pub mod centre;
