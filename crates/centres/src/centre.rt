@@ -35,8 +35,8 @@ pub fn centre(c: Cell) -> IJK
         r += 1;
         let d = inside::direction(n, inside::resolution(r));
         let o = is_odd(r);
-        let q = ijk::down_aperture7(p, o);
-        p = ijk::neighbor(q, direction::new_unchecked(d as u8));
+        let q = images::down_aperture7(p, o);
+        p = images::neighbor(q, direction::new_unchecked(d as u8));
     }
     p
 }
@@ -61,7 +61,7 @@ fn finest(q: IJK, up: IJK, o: bool) -> Direction
     requires { ⌜ (Broad 200000000 q) × (Within 400000000 q) × (up ≡ up7 o q) ⌝ }
     ensures { λ d. ⌜ (d .0 < 7) × Same q (plus (down7 o up) (unit (d .0))) ⌝ }
 {
-    let rest = ijk::minus(q, ijk::down_aperture7(up, o));
+    let rest = ijk::minus(q, images::down_aperture7(up, o));
     let way = ijk::direction_of(rest);
     let Way::Found(d) = way else {
         return direction::new_unchecked(0);
@@ -79,7 +79,7 @@ pub fn read_back(length: Resolution, p: IJK) -> Read
     let mut q = ijk::normalize(p);
     while 0 < r {
         let o = is_odd(r);
-        let up = ijk::up_aperture7(q, o);
+        let up = images::up_aperture7(q, o);
         let d = direction::value(finest(q, up, o));
         n = inside::set_direction(n, inside::resolution(r), inside::digit(d as u64));
         q = up;

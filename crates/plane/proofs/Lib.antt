@@ -2,7 +2,6 @@ pub mod Every
 pub mod Whole
 pub mod Bounds
 pub mod Pairs
-pub mod Rows
 pub mod Normal
 pub mod Distances
 pub mod Sevenths

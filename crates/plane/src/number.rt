@@ -42,7 +42,7 @@ pub(crate) fn less(a: i32, b: i32) -> i32
 }
 
 // a-fold x, and y.
-pub(crate) fn scaled(a: u8, x: i32, y: i32) -> i32
+pub fn scaled(a: u8, x: i32, y: i32) -> i32
     requires { ⌜ a * natAbs x + natAbs y ≤ 1000000000 ⌝ }
     ensures { λ r. ⌜ Is (pos a *ℤ x +ℤ y) 1000000000 r ⌝ }
 {
@@ -58,7 +58,7 @@ fn nearest_seventh(n: i32) -> i32
 }
 
 // The whole number nearest to a seventh of a-fold x, and y.
-pub(crate) fn seventh(a: u8, x: i32, y: i32) -> i32
+pub fn seventh(a: u8, x: i32, y: i32) -> i32
     requires { ⌜ a * natAbs x + natAbs y ≤ 1000000000 ⌝ }
     ensures { λ r. ⌜ Is (points.nearest (pos a *ℤ x +ℤ y)) 1000000000 r ⌝ }
 {

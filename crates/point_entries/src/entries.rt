@@ -77,7 +77,7 @@ pub fn neighbour(p: IJK, direction: u32) -> Point
     let Place::Within(at) = place else {
         return Point::Refused(too_far);
     };
-    Point::At(ijk::neighbor(at, d))
+    Point::At(images::neighbor(at, d))
 }
 
 pub fn same_point(p: IJK, q: IJK) -> Truth
@@ -137,7 +137,7 @@ fn down7(p: IJK, ccw: bool) -> Point
     let Place::Within(at) = a else {
         return Point::Refused(refusal(14));
     };
-    Point::At(ijk::down_aperture7(at, ccw))
+    Point::At(images::down_aperture7(at, ccw))
 }
 
 pub fn down7_ccw(p: IJK) -> Point
@@ -159,7 +159,7 @@ fn down3(p: IJK, ccw: bool) -> Point
     let Place::Within(at) = a else {
         return Point::Refused(refusal(14));
     };
-    Point::At(ijk::down_aperture3(at, ccw))
+    Point::At(images::down_aperture3(at, ccw))
 }
 
 pub fn down3_ccw(p: IJK) -> Point
@@ -181,7 +181,7 @@ fn point_turn(p: IJK, ccw: bool) -> Point
     let Place::Within(at) = a else {
         return Point::Refused(refusal(14));
     };
-    Point::At(ijk::rotate60(at, ccw))
+    Point::At(images::rotate60(at, ccw))
 }
 
 pub fn point_turn_ccw(p: IJK) -> Point
@@ -203,7 +203,7 @@ fn up7(p: IJK, ccw: bool) -> Point
     let Place::Within(at) = a else {
         return Point::Refused(refusal(14));
     };
-    Point::At(ijk::up_aperture7(at, ccw))
+    Point::At(images::up_aperture7(at, ccw))
 }
 
 pub fn up7_ccw(p: IJK) -> Point

@@ -1,10 +1,10 @@
--- `plane::ijk::rotate60` meets its contract. Assumes nothing.
+-- `images::image::rotate60` meets its contract. Assumes nothing.
 use mathlib.Core.Path.{ap, _∙_}
 use borrow.Author.Needs.{needs}
 use Rattle.plane.specs.Points.{normal}
-use Rattle.plane.proofs.Rows.{turned-shape}
-use Rattle.plane.proofs.ijk.rotate60.Statement.{statement}
-use Rattle.plane.proofs.ijk.rotate60.Tie as tie
+use Rattle.images.proofs.Rows.{turned-shape}
+use Rattle.images.proofs.image.rotate60.Statement.{statement}
+use Rattle.images.proofs.image.rotate60.Tie as tie
 
 image-requires : tie.Need-image-requires
 image-requires c κs = search needs

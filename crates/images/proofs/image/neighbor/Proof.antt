@@ -1,13 +1,13 @@
--- `plane::ijk::neighbor` meets its contract. Assumes nothing.
+-- `images::image::neighbor` meets its contract. Assumes nothing.
 use mathlib.Core.Path.{sym, ap, _∙_, subst}
 use native.Mathlib.Omega.{arith}
 use borrow.Author.Needs.{needs}
 use Rattle.plane.specs.Points.{normal, plus}
 use Rattle.plane.specs.Inside.{Weighs}
 use Rattle.plane.specs.declared.ijk.IJK.{IJK}
-use Rattle.plane.proofs.Rows.{once}
-use Rattle.plane.proofs.ijk.neighbor.Statement.{statement}
-use Rattle.plane.proofs.ijk.neighbor.Tie as tie
+use Rattle.images.proofs.Rows.{once}
+use Rattle.images.proofs.image.neighbor.Statement.{statement}
+use Rattle.images.proofs.image.neighbor.Tie as tie
 
 coordinate-requires : tie.Need-coordinate-requires
 coordinate-requires c κs = search needs

@@ -1,10 +1,10 @@
--- `plane::ijk::down_aperture3` meets its contract. Assumes nothing.
+-- `images::image::down_aperture3` meets its contract. Assumes nothing.
 use mathlib.Core.Path.{ap, _∙_}
 use borrow.Author.Needs.{needs}
 use Rattle.plane.specs.Points.{normal}
-use Rattle.plane.proofs.Rows.{down3-shape}
-use Rattle.plane.proofs.ijk.down_aperture3.Statement.{statement}
-use Rattle.plane.proofs.ijk.down_aperture3.Tie as tie
+use Rattle.images.proofs.Rows.{down3-shape}
+use Rattle.images.proofs.image.down_aperture3.Statement.{statement}
+use Rattle.images.proofs.image.down_aperture3.Tie as tie
 
 image-requires : tie.Need-image-requires
 image-requires c κs = search needs

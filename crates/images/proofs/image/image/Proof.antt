@@ -1,13 +1,13 @@
--- `plane::ijk::image` meets its contract. Assumes nothing.
+-- `images::image::image` meets its contract. Assumes nothing.
 use mathlib.Core.Path.{sym, ap, _∙_, subst}
 use native.Mathlib.Omega.{arith}
 use borrow.Author.Needs.{needs}
 use Rattle.plane.specs.Points.{normal}
 use Rattle.plane.specs.Inside.{Weighs, weighed, beside}
 use Rattle.plane.specs.declared.ijk.IJK.{IJK}
 use Rattle.plane.proofs.Bounds.{within-beside, weighs}
-use Rattle.plane.proofs.ijk.image.Statement.{statement}
-use Rattle.plane.proofs.ijk.image.Tie as tie
+use Rattle.images.proofs.image.image.Statement.{statement}
+use Rattle.images.proofs.image.image.Tie as tie
 
 shifted-requires : tie.Need-shifted-requires
 shifted-requires c κs = search needs

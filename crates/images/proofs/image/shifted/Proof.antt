@@ -1,9 +1,9 @@
--- `plane::ijk::shifted` meets its contract. Assumes nothing.
+-- `images::image::shifted` meets its contract. Assumes nothing.
 use borrow.Author.Needs.{sfits-of}
 use mir.Facts.{toZ-ofZ}
 use Rattle.plane.proofs.Bounds.{Held}
-use Rattle.plane.proofs.ijk.shifted.Statement.{statement}
-use Rattle.plane.proofs.ijk.shifted.Tie as tie
+use Rattle.images.proofs.image.shifted.Statement.{statement}
+use Rattle.images.proofs.image.shifted.Tie as tie
 
 held : (c : tie.After-struct-told3) → Held (c .before .before .before .args .p)
 held c = let told = c .struct-told3 .given in record { i = search (sfits-of, told); j = search (sfits-of, told); k = search (sfits-of, told) }

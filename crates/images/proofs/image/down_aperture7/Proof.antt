@@ -1,10 +1,10 @@
--- `plane::ijk::down_aperture7` meets its contract. Assumes nothing.
+-- `images::image::down_aperture7` meets its contract. Assumes nothing.
 use mathlib.Core.Path.{ap, _∙_}
 use borrow.Author.Needs.{needs}
 use Rattle.plane.specs.Points.{normal}
-use Rattle.plane.proofs.Rows.{down7-shape}
-use Rattle.plane.proofs.ijk.down_aperture7.Statement.{statement}
-use Rattle.plane.proofs.ijk.down_aperture7.Tie as tie
+use Rattle.images.proofs.Rows.{down7-shape}
+use Rattle.images.proofs.image.down_aperture7.Statement.{statement}
+use Rattle.images.proofs.image.down_aperture7.Tie as tie
 
 image-requires : tie.Need-image-requires
 image-requires c κs = search needs

@@ -1,11 +1,11 @@
--- `plane::ijk::weighted` meets its contract. Assumes nothing.
+-- `images::image::weighted` meets its contract. Assumes nothing.
 use mathlib.Core.Path.{ap, _∙_}
 use borrow.Author.Needs.{needs, sfits-of}
 use Rattle.plane.specs.Points.{normal}
 use Rattle.plane.proofs.Bounds.{scaled-read}
 use Rattle.plane.proofs.Pairs.{triple-path}
-use Rattle.plane.proofs.ijk.weighted.Statement.{statement}
-use Rattle.plane.proofs.ijk.weighted.Tie as tie
+use Rattle.images.proofs.image.weighted.Statement.{statement}
+use Rattle.images.proofs.image.weighted.Tie as tie
 
 returns : tie.Need-returns
 returns c =
