@@ -1,7 +1,6 @@
 // Answers the requests on standard input, one a line, on standard output; with an argument, tells of itself.
 mod answer;
 mod help;
-mod lists;
 mod serve;
 
 fn main() {

@@ -1,4 +1,4 @@
-// What a line is answered.
+// What a line is answered: the library's answer, or a list to be made where there is room for it.
 use hex::Checked;
 use hex::Given;
 use hex::Number;
@@ -13,6 +13,9 @@ pub enum Answer {
     Malformed,
     Checked(Checked),
     Number(Number),
+    List(u64, u32),
+    ListInRoom(u64, u32, u32),
+    ShortInRoom(u64, u32),
     Cell(Number),
     Point(Point),
     Pair(Pair),

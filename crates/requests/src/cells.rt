@@ -35,8 +35,11 @@ fn of_cell_and_number(line: Line, cell: u64) -> Answer {
     if line.is(b"count ", 3) {
         return Answer::Number(hex::count(cell, n));
     }
-    if line.is(b"childat ", 4) {
-        return child_at(line, cell, n);
+    if line.is(b"list ", 3) {
+        return Answer::List(cell, n);
+    }
+    if line.is(b"short ", 3) {
+        return Answer::ShortInRoom(cell, n);
     }
     if line.is(b"ancestor ", 3) {
         return Answer::Cell(hex::ancestor(cell, n));
@@ -50,6 +53,12 @@ fn of_cell_and_number(line: Line, cell: u64) -> Answer {
     if line.is(b"step ", 3) {
         return Answer::Stepped(hex::step(cell, n));
     }
+    if line.is(b"list ", 4) {
+        return list_in_room(line, cell, n);
+    }
+    if line.is(b"childat ", 4) {
+        return child_at(line, cell, n);
+    }
     turns::answer(line)
 }
 
@@ -58,4 +67,11 @@ fn child_at(line: Line, cell: u64, target: u32) -> Answer {
         return Answer::Malformed;
     };
     Answer::Cell(hex::child_at(cell, target, position))
+}
+
+fn list_in_room(line: Line, cell: u64, target: u32) -> Answer {
+    let Small::Value(room) = line.natural32(3) else {
+        return Answer::Malformed;
+    };
+    Answer::ListInRoom(cell, target, room)
 }

@@ -1,4 +1,4 @@
-// The requests, and what each is answered. The listings are not here: they need room, and the program has it.
+// The requests, and what each is answered.
 mod answers;
 mod cells;
 mod places;
