@@ -1,21 +1,21 @@
 // Reading to the end of the input.
 use crate::answer::answer;
-use crate::out;
-use crate::out::Buffer;
-use crate::out::Out;
 use libc::STDIN_FILENO;
+use replies::out;
+use replies::out::Buffer;
+use replies::out::Out;
 use words::Line;
 
 // The line that is being read, and the answers that wait.
-struct Session {
+struct Reading {
     line: Line,
     out: Out,
     ended: bool,
 }
 
-impl Session {
+impl Reading {
     // Reads once, and answers the lines that this ends. They are written before the next read.
-    fn step(self, buf: &mut Buffer) -> Session {
+    fn step(self, buf: &mut Buffer) -> Reading {
         let line = self.line;
         let o = self.out;
         let mut block = io::large_buffer();
@@ -27,7 +27,7 @@ impl Session {
         let fed = scan(&block[..n], buf, line, o);
         let rest = fed.line;
         let written = out::flush(buf, fed.out);
-        Session {
+        Reading {
             line: rest,
             out: written,
             ended: !written.is_open(),
@@ -36,20 +36,20 @@ impl Session {
 }
 
 // The last line may lack its end.
-fn last(buf: &mut Buffer, line: Line, o: Out) -> Session {
+fn last(buf: &mut Buffer, line: Line, o: Out) -> Reading {
     let mut out = o;
     if !line.is_empty() {
         out = answer(buf, o, line.closed());
     }
     let written = out::flush(buf, out);
-    Session {
+    Reading {
         line: Line::new(),
         out: written,
         ended: true,
     }
 }
 
-fn scan(block: &[u8], buf: &mut Buffer, begun: Line, o: Out) -> Session {
+fn scan(block: &[u8], buf: &mut Buffer, begun: Line, o: Out) -> Reading {
     let mut line = begun;
     let mut out = o;
     let mut i = 0;
@@ -63,7 +63,7 @@ fn scan(block: &[u8], buf: &mut Buffer, begun: Line, o: Out) -> Session {
         }
         i += 1;
     }
-    Session {
+    Reading {
         line,
         out,
         ended: false,
@@ -73,14 +73,14 @@ fn scan(block: &[u8], buf: &mut Buffer, begun: Line, o: Out) -> Session {
 // A proved loop has to end, and nothing says that the input does: the count is one that no input meets.
 pub fn serve() {
     let mut buf = io::large_buffer();
-    let mut session = Session {
+    let mut reading = Reading {
         line: Line::new(),
         out: Out::new(),
         ended: false,
     };
     let mut turns = u64::MAX;
-    while turns > 0 && !session.ended {
-        session = session.step(&mut buf);
+    while turns > 0 && !reading.ended {
+        reading = reading.step(&mut buf);
         turns -= 1;
     }
 }

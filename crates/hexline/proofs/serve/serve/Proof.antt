@@ -4,10 +4,10 @@ use Rattle.hexline.proofs.serve.serve.Statement.{statement}
 use Rattle.hexline.proofs.serve.serve.Tie as tie
 
 abbrev Inv-loop : tie.InvT-loop
-Inv-loop buf₀ session₀ turns₀ buf session turns = Unit {0}
+Inv-loop buf₀ reading₀ turns₀ buf reading turns = Unit {0}
 
 abbrev μ-loop : tie.MeasureT-loop
-μ-loop buf₀ session₀ turns₀ buf session turns = turns
+μ-loop buf₀ reading₀ turns₀ buf reading turns = turns
 
 large-buffer-requires : tie.Need-large-buffer-requires Inv-loop μ-loop
 large-buffer-requires c κs = search needs

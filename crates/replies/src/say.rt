@@ -2,6 +2,7 @@
 use crate::out;
 use crate::out::Buffer;
 use crate::out::Out;
+use hex::Checked;
 use hex::Cursor;
 use hex::Given;
 use hex::Number;
@@ -9,7 +10,9 @@ use hex::Pair;
 use hex::Point;
 use hex::Refusal;
 use hex::Started;
+use hex::Stepped;
 use hex::Truth;
+use hex::Walked;
 
 pub fn malformed(buf: &mut Buffer, o: Out) -> Out {
     out::text(buf, o, b"input")
@@ -18,6 +21,13 @@ pub fn malformed(buf: &mut Buffer, o: Out) -> Out {
 pub fn refused(buf: &mut Buffer, o: Out, refusal: Refusal) -> Out {
     let named = out::text(buf, o, b"refusal ");
     out::decimal(buf, named, refusal.number() as u64)
+}
+
+pub fn checked(buf: &mut Buffer, o: Out, a: Checked) -> Out {
+    match a {
+        Checked::Valid => out::text(buf, o, b"ok"),
+        Checked::Refused(r) => refused(buf, o, r),
+    }
 }
 
 pub fn number(buf: &mut Buffer, o: Out, a: Number) -> Out {
@@ -111,6 +121,33 @@ fn cursor(buf: &mut Buffer, o: Out, c: Cursor) -> Out {
     out = out::signed(buf, out, c.skip);
     out = out::byte(buf, out, b' ');
     out::decimal(buf, out, c.left)
+}
+
+pub fn walked(buf: &mut Buffer, o: Out, a: Walked) -> Out {
+    match a {
+        Walked::To(number, carry) => both(buf, o, number, carry),
+        Walked::Refused(r) => refused(buf, o, r),
+    }
+}
+
+pub fn stepped(buf: &mut Buffer, o: Out, a: Stepped) -> Out {
+    match a {
+        Stepped::Inside(cell, turn) => {
+            let named = out::text(buf, o, b"Inside ");
+            both(buf, named, cell, turn)
+        }
+        Stepped::Leaves(way) => {
+            let named = out::text(buf, o, b"Leaves ");
+            out::decimal(buf, named, way as u64)
+        }
+        Stepped::Refused(r) => refused(buf, o, r),
+    }
+}
+
+fn both(buf: &mut Buffer, o: Out, packed: u64, small: u32) -> Out {
+    let one = out::hex(buf, o, packed);
+    let parted = out::byte(buf, one, b' ');
+    out::decimal(buf, parted, small as u64)
 }
 
 // The first `count` of the cells.

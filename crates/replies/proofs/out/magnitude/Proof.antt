@@ -1,4 +1,4 @@
--- `hexline::out::magnitude` meets its contract: below zero the size is one more than -1 - n.
+-- `replies::out::magnitude` meets its contract: below zero the size is one more than -1 - n.
 use borrow.Author.Needs.{needs}
 use mathlib.Core.Path.{_≡_, _∙_}
 use native.Mathlib.Omega.{arith}
@@ -7,9 +7,9 @@ use lib.Signed.{mag}
 use mir.Syntax.{w32}
 use mir.Val.{toZ, ofZ}
 use mir.Facts.{toZ-ofZ}
-use Rattle.hexline.proofs.Sizes.{minus-below, size-below, not-below, size-fits}
-use Rattle.hexline.proofs.out.magnitude.Statement.{statement}
-use Rattle.hexline.proofs.out.magnitude.Tie as tie
+use Rattle.replies.proofs.Sizes.{minus-below, size-below, not-below, size-fits}
+use Rattle.replies.proofs.out.magnitude.Statement.{statement}
+use Rattle.replies.proofs.out.magnitude.Tie as tie
 
 -- -1 - n is the number's distance below -1
 below : (c : tie.Then1) → negsuc 0 -ℤ toZ w32 (ofZ w32 (c .before .args .n)) ≡ pos (mag (c .before .args .n))

@@ -1,9 +1,9 @@
--- `hexline::descendants::in_room` is safe: the part is within the cells.
+-- `replies::lists::in_room` is safe: the part is within the cells.
 use borrow.Author.Needs.{needs}
 use mathlib.Core.Path.{sym}
 use lib.Seq.{length-take-le}
-use Rattle.hexline.proofs.descendants.in_room.Statement.{statement}
-use Rattle.hexline.proofs.descendants.in_room.Tie as tie
+use Rattle.replies.proofs.lists.in_room.Statement.{statement}
+use Rattle.replies.proofs.lists.in_room.Tie as tie
 
 malformed-requires : tie.Need-malformed-requires
 malformed-requires c κs = search needs

@@ -1,9 +1,9 @@
--- `hexline::out::text` is safe and ends. The measure is what is left of the text.
+-- `replies::out::text` is safe and ends. The measure is what is left of the text.
 use borrow.Author.Needs.{needs}
 use Prim.Native.Nat.{_-_}
 use lib.ListN.{length}
-use Rattle.hexline.proofs.out.text.Statement.{statement}
-use Rattle.hexline.proofs.out.text.Tie as tie
+use Rattle.replies.proofs.out.text.Statement.{statement}
+use Rattle.replies.proofs.out.text.Tie as tie
 
 abbrev Inv-loop : tie.InvT-loop
 Inv-loop buf₀ bytes out₀ i₀ buf out i = Unit {0}

@@ -1,9 +1,9 @@
--- `hexline::say::cells` is safe and ends. The measure is what is left of the cells.
+-- `replies::say::cells` is safe and ends. The measure is what is left of the cells.
 use borrow.Author.Needs.{needs}
 use Prim.Native.Nat.{_-_}
 use lib.ListN.{length}
-use Rattle.hexline.proofs.say.cells.Statement.{statement}
-use Rattle.hexline.proofs.say.cells.Tie as tie
+use Rattle.replies.proofs.say.cells.Statement.{statement}
+use Rattle.replies.proofs.say.cells.Tie as tie
 
 abbrev Inv-loop : tie.InvT-loop
 Inv-loop buf₀ cells count out₀ i₀ buf out i = Unit {0}

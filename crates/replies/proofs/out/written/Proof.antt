@@ -1,9 +1,9 @@
--- `hexline::out::written` is safe: the part is within the buffer.
+-- `replies::out::written` is safe: the part is within the buffer.
 use borrow.Author.Needs.{needs}
 use mathlib.Core.Path.{sym}
 use lib.Seq.{length-take-le}
-use Rattle.hexline.proofs.out.written.Statement.{statement}
-use Rattle.hexline.proofs.out.written.Tie as tie
+use Rattle.replies.proofs.out.written.Statement.{statement}
+use Rattle.replies.proofs.out.written.Tie as tie
 
 slice-aggregate-write-all : tie.Need-slice-aggregate-write-all
 slice-aggregate-write-all c = sym (length-take-le _ _ (c .before .before .pre))

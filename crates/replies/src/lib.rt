@@ -1,0 +1,4 @@
+// Answers as bytes, on their way to standard output.
+pub mod lists;
+pub mod out;
+pub mod say;
