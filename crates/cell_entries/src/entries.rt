@@ -10,7 +10,6 @@ ghost use Rattle.cell_entries.specs.Cells.{validOf, countOf, childAtOf, 
 use crate::finer::Wanted;
 use crate::finer::finer;
 use children::Cursor;
-use ranks::Found;
 use children::Given;
 use entry::Checked;
 use entry::Number;
@@ -22,6 +21,7 @@ use index::inside::refusal;
 use index::inside::resolution;
 use index::inside::resolution_number;
 use index::inside::resolution_of;
+use ranks::Found;
 
 pub fn check(raw: u64) -> Checked
     ensures { λ r. ⌜ toldChecked r ≡ validOf raw ⌝ }
