@@ -8,10 +8,10 @@ use Rattle.centres.specs.Centres.{Reads}
 use Rattle.centres.proofs.Strings.{one-reading}
 use Rattle.entry.specs.Rules.{resolutionRule, rangeRule}
 use Rattle.step_entries.specs.Steps.{Under}
-use Rattle.rivetgnome.specs.Exports.{numberOut}
+use Rattle.outward.specs.Exports.{numberOut}
 use Rattle.rivetgnome.specs.Steps.{ReadsBackOut}
-use Rattle.rivetgnome.specs.declared.cells.RgChecked.{RgChecked}
-use Rattle.rivetgnome.specs.declared.answers.RgNumber.{RgNumber}
+use Rattle.outward.specs.declared.answers.RgChecked.{RgChecked}
+use Rattle.outward.specs.declared.answers.RgNumber.{RgNumber}
 
 module _ {A : Type 0} (a r s : A) where
   pub one-out : r ≡ a → s ≡ a → r ≡ s

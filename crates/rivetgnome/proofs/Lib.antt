@@ -1,5 +1,2 @@
-pub mod Fields
-pub mod Signs
-pub mod Reading
 pub mod Narrow
 pub mod Alone

@@ -19,6 +19,7 @@ use Rattle.grid.proofs.Inside.{Case, left, stayed, deleted, ccw, cw, cases, wit
 use Rattle.grid.proofs.Inside as inner
 use Rattle.entry.specs.Rules.{onwardRule}
 use Rattle.step_entries.specs.Steps.{onwardRules, after, stepOf}
+use Rattle.outward.specs.Exports.{steppedOut}
 
 below : (d : ℕ) → eqb d 0 || ltb 6 d ≡ false → d < 7
 below d e = go (eqb d 0) (ltb 6 d) refl e
@@ -51,7 +52,7 @@ module _ (n d : ℕ) (x : Answer) (e : stepOf n d ≡ answered x) where
   onward : d < 7
   onward = below d (parts .1 .0)
 
-pub turn-small : (n d m t : ℕ) → stepOf n d ≡ answered (inside m t) → t < 7
+turn-small : (n d m t : ℕ) → stepOf n d ≡ answered (inside m t) → t < 7
 turn-small n d m t e = go (cases n d (valid n d _ e) (onward n d _ e)) (step n d _ e)
   where
     go : Case n d → steps.stepOf n d ≡ answered (inside m t) → t < 7
@@ -61,7 +62,7 @@ turn-small n d m t e = go (cases n d (valid n d _ e) (onward n d _ e)) (step n d
     go (ccw z a g f q) p = omega (arith, within (steps.stepOf n d) m t _ _ p q .1)
     go (cw z a g f q) p = omega (arith, within (steps.stepOf n d) m t _ _ p q .1)
 
-pub way-small : (n d w : ℕ) → n < 2 ^ 64 → stepOf n d ≡ answered (leaves w) → w < 7
+way-small : (n d w : ℕ) → n < 2 ^ 64 → stepOf n d ≡ answered (leaves w) → w < 7
 way-small n d w h e = go (cases n d (valid n d _ e) (onward n d _ e)) (step n d _ e)
   where
     go : Case n d → steps.stepOf n d ≡ answered (leaves w) → w < 7
@@ -70,3 +71,8 @@ way-small n d w h e = go (cases n d (valid n d _ e) (onward n d _ e)) (step n d 
     go (deleted z a g f q) p = absurd (never (sym p ∙ q))
     go (ccw z a g f q) p = inner.never (steps.stepOf n d) _ _ q .0 w p
     go (cw z a g f q) p = inner.never (steps.stepOf n d) _ _ q .0 w p
+
+pub step-fits : (n d : ℕ) (o : Outcome Answer) → n < 2 ^ 64 → o ≡ stepOf n d → steppedOut o .turn < 65536
+step-fits n d (answered (inside m t)) h e = omega (arith, turn-small n d m t (sym e))
+step-fits n d (answered (leaves w)) h e = omega (arith, way-small n d w h (sym e))
+step-fits n d (refused k) h e = omega arith

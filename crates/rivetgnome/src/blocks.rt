@@ -3,9 +3,9 @@ ghost use mathlib.Core.Path.{_≡_};
 ghost use Rattle.index.specs.Check.{checkOf};
 ghost use Rattle.block_entries.specs.Blocks.{blockOf, valuesAfter, refusalsAfter};
 ghost use Rattle.cell_entries.specs.Cells.{positionOf, ancestorOf};
-ghost use Rattle.rivetgnome.specs.Exports.{numberOut};
-use crate::answers::RgNumber;
-use crate::answers::number_out;
+ghost use Rattle.outward.specs.Exports.{numberOut};
+use outward::RgNumber;
+use outward::number_out;
 
 #[no_mangle]
 pub extern "C" fn rg_check_block(

@@ -5,25 +5,17 @@ ghost use lib.ListN.{length};
 ghost use Rattle.index.specs.Layout.{resOf};
 ghost use Rattle.index.specs.Refusals.{numberOf};
 ghost use Rattle.cell_entries.specs.Cells.{validOf, countOf, listOf, listShortOf, afterwards, childAtOf, positionOf, ancestorOf};
-ghost use Rattle.rivetgnome.specs.Exports.{numberOut};
-use crate::answers::RgNumber;
-use crate::answers::number_out;
-
-#[repr(C)]
-pub struct RgChecked {
-    pub refusal: u16,
-    pub zero: u16,
-}
+ghost use Rattle.outward.specs.Exports.{numberOut};
+use outward::RgChecked;
+use outward::RgNumber;
+use outward::number_out;
+use outward::refusal_out;
 
 #[no_mangle]
 pub extern "C" fn rg_check(cell: u64) -> RgChecked
     ensures { λ r. ⌜ (r .refusal ≡ numberOf (validOf cell)) × (r .zero ≡ 0) ⌝ }
 {
-    let a = hex::check(cell);
-    RgChecked {
-        refusal: a.refusal(),
-        zero: 0,
-    }
+    refusal_out(hex::check(cell).refusal())
 }
 
 #[no_mangle]

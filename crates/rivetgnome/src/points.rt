@@ -4,16 +4,16 @@ ghost use mathlib.Core.Bool.{true, false};
 ghost use Rattle.plane.specs.Directions.{triple};
 ghost use Rattle.plane.specs.Points.{pair};
 ghost use Rattle.point_entries.specs.Points.{unitOf, directionTurnOf, normaliseOf, neighbourOf, sameOf, distanceOf, toIjOf, fromIjOf, down7Of, down3Of, pointTurnOf, up7Of, directionOf};
-ghost use Rattle.rivetgnome.specs.Exports.{numberOut, truthOut, pointOut, pairOut};
-use crate::answers::RgNumber;
-use crate::answers::RgPair;
-use crate::answers::RgPoint;
-use crate::answers::number_out;
-use crate::answers::pair_out;
-use crate::answers::point_out;
-use crate::answers::truth_out;
+ghost use Rattle.outward.specs.Exports.{numberOut, truthOut, pointOut, pairOut};
 use hex::IJ;
 use hex::IJK;
+use outward::RgNumber;
+use outward::RgPair;
+use outward::RgPoint;
+use outward::number_out;
+use outward::pair_out;
+use outward::point_out;
+use outward::truth_out;
 
 #[no_mangle]
 pub extern "C" fn rg_unit(direction: u32) -> RgPoint

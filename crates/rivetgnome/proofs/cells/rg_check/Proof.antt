@@ -1,5 +1,5 @@
 use borrow.Author.Needs.{needs}
-use mathlib.Core.Path.{refl, ap, _∙_}
+use mathlib.Core.Path.{ap, _∙_}
 use Rattle.index.specs.Refusals.{numberOf}
 use Rattle.rivetgnome.proofs.cells.rg_check.Statement.{statement}
 use Rattle.rivetgnome.proofs.cells.rg_check.Tie as tie
@@ -10,8 +10,11 @@ check-requires c κs = search needs
 refusal-requires : tie.Need-refusal-requires
 refusal-requires c κs = search needs
 
+refusal-out-requires : tie.Need-refusal-out-requires
+refusal-out-requires c κs = search needs
+
 returns : tie.Need-returns
-returns c = (c .refusal .ensures ∙ ap numberOf (c .before .check .ensures), refl)
+returns c = (c .refusal-out .ensures .0 ∙ c .before .refusal .ensures ∙ ap numberOf (c .before .before .check .ensures), c .refusal-out .ensures .1)
 
 pub rg-check-spec : {M : Type 1} → statement M
-rg-check-spec = tie.close (tie.spec check-requires refusal-requires returns)
+rg-check-spec = tie.close (tie.spec check-requires refusal-requires refusal-out-requires returns)

@@ -10,10 +10,10 @@ use types.Run
 use Rattle.children.specs.Cursors.{nextOf}
 use Rattle.children.specs.declared.children.Cursor.{Cursor}
 use Rattle.children.specs.declared.children.Given.{Given}
-use Rattle.rivetgnome.specs.Exports.{numberOut}
-use Rattle.rivetgnome.specs.CursorWords.{toldRead, cursorOfWords, givenNumber, givenWords, nextNumber, nextWords}
-use Rattle.rivetgnome.specs.declared.cursors.Read.{Read}
-use Rattle.rivetgnome.proofs.cursors.Read as read-type
+use Rattle.outward.specs.Exports.{numberOut}
+use Rattle.outward.specs.CursorWords.{toldRead, cursorOfWords, givenNumber, givenWords, nextNumber, nextWords}
+use Rattle.outward.specs.declared.cursors.Read.{Read}
+use Rattle.outward.proofs.cursors.Read as read-type
 use Rattle.rivetgnome.proofs.cursors.rg_next.Statement.{statement}
 use Rattle.rivetgnome.proofs.cursors.rg_next.Tie as tie
 
@@ -63,52 +63,18 @@ returns c =
 next-requires : tie.Need-next-requires
 next-requires c κs = search needs
 
-enum-known-g : tie.Need-enum-known-g
-enum-known-g c = search needs
-
-write-requires : tie.Need-write-requires
-write-requires c κs = search needs
-
-enum-known-g-2 : tie.Need-enum-known-g-2
-enum-known-g-2 c = search needs
-
-enum-known-g-3 : tie.Need-enum-known-g-3
-enum-known-g-3 c = search needs
-
-words : tie.After-next → List ℕ
-words c = now (c .before .before .before .before .before .before .before .before .before .before .args .cursor)
-
--- the cursor that they hold
-held : (c : tie.After-next) → some (c .before .before .a .given .0 .0) ≡ cursorOfWords (words c)
-unfolding words
-held c = let d = c .before .before in sym (ap toldRead (d .a .given .1)) ∙ d .before .before .cursor-in .ensures
+given-out-requires : tie.Need-given-out-requires
+given-out-requires c κs = search needs
 
 returns-2 : tie.Need-returns-2
-unfolding words
 returns-2 c =
-    let q = c .before .before .before in
-    let r = q .before .before in
-    let ws = words r in
-    let k = sym (q .g .given .1) ∙ r .next .ensures in
-    (told (cursorOfWords ws) _ _ (held r) k, c .write .ensures ∙ left ws (cursorOfWords ws) _ _ (held r) k)
-
-returns-3 : tie.Need-returns-3
-unfolding words
-returns-3 c =
-    let q = c .before in
-    let r = q .before .before in
-    let ws = words r in
-    let k = sym (q .g2 .given .1) ∙ r .next .ensures in
-    (told (cursorOfWords ws) _ _ (held r) k, left ws (cursorOfWords ws) _ _ (held r) k)
-
-returns-4 : tie.Need-returns-4
-unfolding words
-returns-4 c =
-    let q = c .before in
-    let r = q .before .before in
-    let ws = words r in
-    let k = sym (q .g3 .given .1) ∙ r .next .ensures in
-    (told (cursorOfWords ws) _ _ (held r) k, left ws (cursorOfWords ws) _ _ (held r) k)
+    let n = c .before .before in
+    let d = n .before .before in
+    let b = d .before .before in
+    let ws = now (b .before .before .before .before .before .before .args .cursor) in
+    let e = sym (ap toldRead (d .a .given .1)) ∙ b .cursor-in .ensures in
+    let g = c .given-out .ensures in
+    (g .0 ∙ told (cursorOfWords ws) _ _ e (n .next .ensures), g .1 ∙ left ws (cursorOfWords ws) _ _ e (n .next .ensures))
 
 pub rg-next-spec : {M : Type 1} → statement M
 rg-next-spec =
@@ -124,10 +90,5 @@ rg-next-spec =
     enum-told
     returns
     next-requires
-    enum-known-g
-    write-requires
-    enum-known-g-2
-    enum-known-g-3
-    returns-2
-    returns-3
-    returns-4)
+    given-out-requires
+    returns-2)

@@ -1,8 +1,8 @@
 use borrow.Author.Needs.{needs}
 use mathlib.Core.Path.{ap, _∙_}
 use Rattle.point_entries.specs.Points.{directionOf}
-use Rattle.rivetgnome.specs.Exports.{numberOut}
-use Rattle.rivetgnome.proofs.Fields.{point-read}
+use Rattle.outward.specs.Exports.{numberOut}
+use Rattle.outward.proofs.Fields.{point-read}
 use Rattle.rivetgnome.proofs.points.rg_direction_of.Statement.{statement}
 use Rattle.rivetgnome.proofs.points.rg_direction_of.Tie as tie
 

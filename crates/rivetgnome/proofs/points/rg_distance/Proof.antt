@@ -1,8 +1,8 @@
 use borrow.Author.Needs.{needs}
 use mathlib.Core.Path.{ap, _∙_}
 use Rattle.point_entries.specs.Points.{distanceOf}
-use Rattle.rivetgnome.specs.Exports.{numberOut}
-use Rattle.rivetgnome.proofs.Fields.{two-read}
+use Rattle.outward.specs.Exports.{numberOut}
+use Rattle.outward.proofs.Fields.{two-read}
 use Rattle.rivetgnome.proofs.points.rg_distance.Statement.{statement}
 use Rattle.rivetgnome.proofs.points.rg_distance.Tie as tie
 

@@ -1,8 +1,8 @@
 use borrow.Author.Needs.{needs}
 use mathlib.Core.Path.{ap, _∙_}
 use Rattle.point_entries.specs.Points.{fromIjOf}
-use Rattle.rivetgnome.specs.Exports.{pointOut}
-use Rattle.rivetgnome.proofs.Fields.{pair-read}
+use Rattle.outward.specs.Exports.{pointOut}
+use Rattle.outward.proofs.Fields.{pair-read}
 use Rattle.rivetgnome.proofs.points.rg_from_ij.Statement.{statement}
 use Rattle.rivetgnome.proofs.points.rg_from_ij.Tie as tie
 

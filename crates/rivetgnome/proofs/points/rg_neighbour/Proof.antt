@@ -2,8 +2,8 @@ use borrow.Author.Needs.{needs}
 use mathlib.Core.Path.{ap, _∙_}
 use Rattle.plane.specs.declared.ijk.IJK.{IJK}
 use Rattle.point_entries.specs.Points.{neighbourOf}
-use Rattle.rivetgnome.specs.Exports.{pointOut}
-use Rattle.rivetgnome.proofs.Fields.{point-read}
+use Rattle.outward.specs.Exports.{pointOut}
+use Rattle.outward.proofs.Fields.{point-read}
 use Rattle.rivetgnome.proofs.points.rg_neighbour.Statement.{statement}
 use Rattle.rivetgnome.proofs.points.rg_neighbour.Tie as tie
 

@@ -2,8 +2,8 @@ use borrow.Author.Needs.{needs}
 use mathlib.Core.Path.{ap, _∙_}
 use mathlib.Core.Bool.{false}
 use Rattle.point_entries.specs.Points.{pointTurnOf}
-use Rattle.rivetgnome.specs.Exports.{pointOut}
-use Rattle.rivetgnome.proofs.Fields.{point-read}
+use Rattle.outward.specs.Exports.{pointOut}
+use Rattle.outward.proofs.Fields.{point-read}
 use Rattle.rivetgnome.proofs.points.rg_point_turn_cw.Statement.{statement}
 use Rattle.rivetgnome.proofs.points.rg_point_turn_cw.Tie as tie
 

@@ -1,8 +1,8 @@
 use borrow.Author.Needs.{needs}
 use mathlib.Core.Path.{ap, _∙_}
 use Rattle.point_entries.specs.Points.{sameOf}
-use Rattle.rivetgnome.specs.Exports.{truthOut}
-use Rattle.rivetgnome.proofs.Fields.{two-read}
+use Rattle.outward.specs.Exports.{truthOut}
+use Rattle.outward.proofs.Fields.{two-read}
 use Rattle.rivetgnome.proofs.points.rg_same_point.Statement.{statement}
 use Rattle.rivetgnome.proofs.points.rg_same_point.Tie as tie
 

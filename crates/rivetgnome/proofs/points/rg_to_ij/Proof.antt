@@ -1,8 +1,8 @@
 use borrow.Author.Needs.{needs}
 use mathlib.Core.Path.{ap, _∙_}
 use Rattle.point_entries.specs.Points.{toIjOf}
-use Rattle.rivetgnome.specs.Exports.{pairOut}
-use Rattle.rivetgnome.proofs.Fields.{point-read}
+use Rattle.outward.specs.Exports.{pairOut}
+use Rattle.outward.proofs.Fields.{point-read}
 use Rattle.rivetgnome.proofs.points.rg_to_ij.Statement.{statement}
 use Rattle.rivetgnome.proofs.points.rg_to_ij.Tie as tie
 

@@ -3,7 +3,7 @@ use mathlib.Core.Path.{ap, subst}
 use Rattle.plane.specs.declared.ijk.IJK.{IJK}
 use Rattle.entry.specs.Answers.{toldNumber}
 use Rattle.step_entries.specs.Steps.{ReadsBack}
-use Rattle.rivetgnome.proofs.Fields.{point-read}
+use Rattle.outward.proofs.Fields.{point-read}
 use Rattle.rivetgnome.proofs.steps.rg_read_back.Statement.{statement}
 use Rattle.rivetgnome.proofs.steps.rg_read_back.Tie as tie
 
