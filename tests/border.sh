@@ -5,9 +5,9 @@
 set -u
 cd "$(dirname "$0")/.." || exit 1
 found=$(
-    grep -rn 'inside' include bindings crates/outward/src crates/rivetgnome/src crates/hexline/src 2>/dev/null
+    grep -rn 'inside' include bindings crates/outward/src crates/rivetgnome/src crates/requests/src crates/replies/src crates/hexline/src 2>/dev/null
     grep -rnE '^ *pub .*inside' crates/hex/src crates/entry/src crates/*_entries/src
     grep -nE 'judge|below' crates/hex/src/lib.rt
-    grep -rnE 'use (entry|[a-z]*_entries)::' crates/rivetgnome/src crates/hexline/src
+    grep -rnE 'use (entry|[a-z]*_entries)::' crates/rivetgnome/src crates/requests/src crates/replies/src crates/hexline/src
 )
 [ -z "$found" ] || { printf '%s\n' "$found"; exit 1; }
