@@ -90,3 +90,18 @@ cleared ((j when t) ∷ rules) more b c = rw (c .0) (cleared rules more b (c .1)
 pub clear-parts : (rules more : List Rule) → Clear (rules ++ more) → Clear rules × Clear more
 clear-parts [] more c = (tt, c)
 clear-parts ((j when t) ∷ rules) more c = let p = clear-parts rules more (c .1) in ((c .0, p .0), p .1)
+
+-- none of the rules has the number k
+abbrev pub Others : ℕ → List Rule → Type 0
+Others k [] = Unit {0}
+Others k ((j when t) ∷ rules) = (j ≡ k → ⊥) × Others k rules
+
+-- a refusal that none of the first rules has comes of the later ones, and no test of the first holds
+pub later : (k : ℕ) (rules more : List Rule) → Others k rules → Met k (rules ++ more) → Clear rules × Met k more
+later k [] more o m = (tt, m)
+later k ((j when t) ∷ rules) more o (inl m) = absurd (o .0 (m .1))
+later k ((j when t) ∷ rules) more o (inr m) = let r = later k rules more (o .1) (m .1) in ((m .0, r .0), r .1)
+
+pub joined : (rules more : List Rule) → Clear rules → Clear more → Clear (rules ++ more)
+joined [] more c d = d
+joined ((j when t) ∷ rules) more c d = (c .0, joined rules more (c .1) d)

@@ -96,7 +96,7 @@ split t false e = inr (ap (λ (b : Bool). answer b (value (normal t))) e)
 pub found-or-not : (t : IJK) → ((d : ℕ) × (d < 7) × Same t (unit d)) ⊎ (direction-of t ≡ NotUnit)
 found-or-not t = split t (leZ (largest (normal t)) (pos 1)) refl
 
-apart : (w : Way) (d : ℕ) → w ≡ Found (direction d) → w ≡ NotUnit → ⊥
+pub apart : (w : Way) (d : ℕ) → w ≡ Found (direction d) → w ≡ NotUnit → ⊥
 apart w d p q = let z : _≡_ {A = ℕ} 0 1 = cc in omega arith
 
 alike : (w : Way) (d e : ℕ) → w ≡ Found (direction d) → w ≡ Found (direction e) → d ≡ e
