@@ -10,7 +10,7 @@ for c in $(sed -n 's/^\([a-z_]*\):.*/\1/p' crates.txt); do
     f=$(cat crates/$c/src/*.rt | grep -cE '^ *(pub(\([a-z]+\))? )?(extern "C" )?fn ')
     p=$(lines crates/$c/src/*.rt)
     b=$(lines crates/$c/specs/*.antt)
-    l=$(lines $(find crates/$c/proofs -name '*.antt'))
+    l=$(lines $(find crates/$c/proofs -name '*.antt' 2>/dev/null))
     e=$(find crates/$c -name '*.edit' | wc -l)
     row "$c" "$f" "$p" "$b" "$l" "$e"
     total_f=$((total_f + f)) total_p=$((total_p + p)) total_b=$((total_b + b)) total_l=$((total_l + l)) total_e=$((total_e + e))

@@ -1,8 +1,9 @@
 #!/bin/sh
 # Holds docs/STATEMENTS.md to the tree, for the gate. Its table of entries has a row for each public entry (a function that crate hex passes on) and
 # names each export of rivetgnome; in a row, the statement is a definition that the entry's `ensures` cites, the theorem is there, and each
-# of at least two edits is there and changes a program. Every edit is named somewhere in the document. The counts at its end are those of tests/counts.sh,
-# and its lines of axioms are what the prover reported of each crate when rt ci proved it (target/log).
+# of at least two edits is there and changes a program. Each refusal has a row, whose theorems are there. Every edit is named somewhere in the
+# document. The counts at its end are those of tests/counts.sh, and its lines of axioms are what the prover reported of each crate when rt ci proved
+# it (target/log).
 set -u
 cd "$(dirname "$0")/.." || exit 1
 doc=docs/STATEMENTS.md
@@ -43,6 +44,13 @@ printf '%s\n' "$rows" | while IFS="$(printf '\t')" read -r entries given stateme
         count=$((count + 1))
     done
     [ $count -ge 2 ] || [ "$given" = rg_version ] || say "$entries: fewer than two wrong programs"
+done
+for n in 1 2 3 4 5 6 7 8 9 10 11 12 13 14 15 16 17; do
+    told=$(sed -n "s/^| $n |.*| \([^|]*\) |\$/\1/p" "$doc" | grep -o '`[a-z0-9-]*`' | tr -d '`')
+    [ -n "$told" ] || say "refusal $n has no row, or a row without a theorem"
+    for t in $told; do
+        grep -qE "^ *pub $t( |$)" crates/*/proofs/*.antt || say "$t (refusal $n) is no theorem"
+    done
 done
 for f in crates/*/must-fail/*.edit; do
     e=$(echo "$f" | sed 's#crates/\(.*\)/must-fail/\(.*\).edit#\1/\2#')
