@@ -13,7 +13,7 @@ use borrow.Author.Tests.{ltb-false, le-ltb, eqb-false, not-true, not-false}
 use Rattle.index.specs.Layout.{Valid, resOf}
 use Rattle.index.specs.Refusals.{Rule, _when_, Outcome, answered, refused, judged, Clear, Met}
 use Rattle.index.specs.Check.{cellRules}
-use Rattle.index.proofs.Rules.{refused-inj, refused-met, answered-clear, clear-answered, clear-parts, cleared, hit, Others, later, joined}
+use Rattle.index.proofs.Rules.{refused-inj, never, refused-met, answered-clear, clear-answered, clear-parts, cleared, hit, Others, later, joined}
 use Rattle.index.proofs.Validity.{clear-valid, valid-clear}
 use Rattle.plane.specs.Directions.{unit}
 use Rattle.plane.specs.Points.{normal, largest, value, direction, Same, direction-of}
@@ -26,11 +26,12 @@ use Rattle.descent.specs.Positions as positions
 use Rattle.descent.proofs.Ancestors.{under-descendant, descendant-under}
 use Rattle.children.specs.Cursors.{nextOf, Made}
 use Rattle.children.specs.declared.children.Cursor.{Cursor}
-use Rattle.children.specs.declared.children.Given.the-variants.{Refused}
+use Rattle.children.specs.declared.children.Given.{Given}
 use Rattle.children.proofs.Reach.{unmade-refused, made-given}
 use Rattle.centres.specs.Centres.{StringOf, Reads}
 use Rattle.grid.specs.Steps as steps
 use Rattle.grid.proofs.Inside.{Pentagon, deleted-way}
+use Rattle.entry.specs.Answers.{toldGiven}
 use Rattle.entry.specs.Rules.{resolutionRule, rangeRule, onwardRule}
 use Rattle.cell_entries.specs.Cells.{positionOf}
 use Rattle.point_entries.specs.Points.{directionOf, unitRule}
@@ -40,8 +41,13 @@ use Rattle.step_entries.specs.Steps.{ReadsBack, Under, onwardRules, after, step
 others : (n k : ℕ) → 7 < k → Others k (cellRules n)
 others n k h = (λ e. omega arith, (λ e. omega arith, (λ e. omega arith, (λ e. omega arith, (λ e. omega arith, (λ e. omega arith, (λ e. omega arith, tt)))))))
 
-pub given-11 : (c : Cursor) → c .number < 2 ^ 64 → (nextOf c ≡ Refused c) ↔ (Made c → ⊥)
-given-11 c h = (λ e m. made-given c c m e, λ none. unmade-refused c h none)
+unchild : (g : Given) → toldGiven g ≡ refused 11 → (d : Cursor) × (g ≡ Given.Refused d)
+unchild (Given.Child y d) e = absurd (never e)
+unchild (Given.Done d) e = absurd (never e)
+unchild (Given.Refused d) e = (d, refl)
+
+pub given-11 : (c : Cursor) → c .number < 2 ^ 64 → (toldGiven (nextOf c) ≡ refused 11) ↔ (Made c → ⊥)
+given-11 c h = (λ e m. let g = unchild (nextOf c) e in made-given c (g .0) m (g .1), λ none. ap toldGiven (unmade-refused c h none))
 
 pub given-12 : (n y : ℕ) → n < 2 ^ 64 → y < 2 ^ 64 → (positionOf n y ≡ refused 12) ↔ (Valid n × Valid y × (Descendant n (resOf y) y → ⊥))
 given-12 n y hn hy = (there, back)

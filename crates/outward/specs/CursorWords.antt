@@ -10,6 +10,7 @@ use Rattle.index.specs.Refusals.{Outcome, answered, refused}
 use Rattle.children.specs.Cursors.{nextOf}
 use Rattle.children.specs.declared.children.Cursor.{Cursor}
 use Rattle.children.specs.declared.children.Given.{Given}
+use Rattle.entry.specs.Answers.{toldGiven}
 use Rattle.outward.specs.declared.cursors.Skip.{Skip}
 use Rattle.outward.specs.declared.cursors.Read.{Read}
 
@@ -51,10 +52,13 @@ startedWords ws (answered c) = wordsOf c
 startedWords ws (refused k) = ws
 
 -- the child, or 0 for Done: no cell has the number 0
+abbrev pub orZero : Outcome (Option ℕ) → Outcome ℕ
+orZero (answered (some y)) = answered y
+orZero (answered none) = answered 0
+orZero (refused k) = refused k
+
 abbrev pub givenNumber : Given → Outcome ℕ
-givenNumber (Given.Child y c) = answered y
-givenNumber (Given.Done c) = answered 0
-givenNumber (Given.Refused c) = refused 11
+givenNumber g = orZero (toldGiven g)
 
 -- the following cursor's words, or the words as they were
 abbrev pub givenWords : List ℕ → Given → List ℕ
