@@ -2,7 +2,7 @@
 use crate::frame::Random;
 use crate::inputs::*;
 use crate::lists::BLOCK;
-use crate::time::{Row, beside};
+use crate::time::{Row, alone, beside};
 use crate::{model, rg, rust};
 
 /// A block's answers.
@@ -75,16 +75,26 @@ fn row(name: &str, cells: Vec<u64>, ours: Ask, theirs: Ask) -> Row<'static> {
     )
 }
 
+/// The single entry, a call for each of a block's numbers.
+fn calls(name: &str, cells: &[u64], ours: impl Fn(u64) -> rg::Number + 'static) -> Row<'static> {
+    alone(name, cells, move |n| number(ours(n)))
+}
+
 pub fn rows(random: &mut Random) -> Vec<Row<'static>> {
     let valid = many(|| cell(random));
     let half = many(|| if random.below(2) == 0 { cell(random) } else { damaged(random) });
     let fine = many(|| cell_at(random, 9));
     let first = hexagon_at(random, 5);
     let under = many(|| model::child_at(first, 9, random.below(2401)));
+    let checked = |name, cells: &[u64]| alone(name, cells, |n| (rg::check(n).refusal == 0).then_some(1));
     vec![
+        checked("check, valid cells, a call each", &valid),
         row("check in blocks, valid cells", valid, Box::new(move |n, a| check(n, a)), Box::new(move |n, a| rust_check(n, a))),
+        checked("check, half of them damaged, a call each", &half),
         row("check in blocks, half of them damaged", half, Box::new(move |n, a| check(n, a)), Box::new(move |n, a| rust_check(n, a))),
+        calls("ancestor, 9 to 5, a call each", &fine, |n| rg::ancestor(n, 5)),
         row("ancestor in blocks, 9 to 5", fine, Box::new(move |n, a| ancestor(n, 5, a)), Box::new(move |n, a| rust_ancestor(n, 5, a))),
+        calls("position, 9 under 5, a call each", &under, move |n| rg::position(first, n)),
         row("position in blocks, 9 under 5", under, Box::new(move |n, a| position(first, n, a)), Box::new(move |n, a| rust_position(first, n, a))),
     ]
 }
