@@ -2,7 +2,7 @@
 use mathlib.Core.Path.{_≡_, refl, sym, ap, _∙_, subst}
 use mathlib.Core.Logic.{⊎-elim}
 use Prim.Native.Nat.{ℕ, zero, suc, _+_, _-_, _*_, _/_, _%_, _^_, _≤_, _<_}
-use native.Mathlib.Nat.{mod-eq-of-lt, lt-of-lt-of-le, lt-of-le-of-lt, mod-le, le-div-iff-mul-le, div-lt-iff-lt-mul, le-of-suc-le-suc, not-suc-le-zero, eq-or-lt-of-le, eq-zero-or-pos, lt-suc-self, le-step}
+use native.Mathlib.Nat.{mod-eq-of-lt, div-eq-of-lt, lt-of-lt-of-le, le-trans, le-div-iff-mul-le, div-lt-iff-lt-mul, le-of-suc-le-suc, not-suc-le-zero, eq-or-lt-of-le, le-refl, lt-suc-self, le-step}
 use native.Mathlib.Decide.{decLe}
 use native.Mathlib.Numerals.{add-one}
 use native.Mathlib.Omega.{arith}
@@ -10,7 +10,7 @@ use lib.Pow.{pow-pos, pow-mono, pow-add, field, mod-mod-pow}
 use lib.Count.{leadingZeros, leading-length}
 use lib.Dec.{eqb}
 use borrow.Author.Tests.{ne-eqb}
-use mathlib.Core.Bool.{false, cond}
+use mathlib.Core.Bool.{cond}
 use Rattle.index.specs.Layout.{digit, firstOf}
 
 -- a digit of n is a digit of its low 45 bits
@@ -35,26 +35,21 @@ lead n =
         lem m h p = let q : 2 ^ 46 ≤ 2 ^ m = pow-mono p in omega arith
     go m h (no f) = omega arith
 
--- a digit of which the length m of the 45 bits leaves i bits is below 2 ^ i, and one that holds the top bit past i bits is not
-top-most : (n m r i : ℕ) → n % 2 ^ 45 < 2 ^ m → 1 ≤ r → r ≤ 15 → m ≤ 3 * (15 - r) + i → digit n r < 2 ^ i
-top-most n m r i h l u g =
-    let s : ℕ = 3 * (15 - r) in
-    let e : 2 ^ m ≤ 2 ^ i * 2 ^ s = rw (← (pow-add 2 i s)) (pow-mono {j = i + s} (omega arith)) in
-    let b : n % 2 ^ 45 / 2 ^ s < 2 ^ i = div-lt-iff-lt-mul (pow-pos s) .1 (lt-of-lt-of-le h e) in
-    rw (digit-low n s (omega arith)) (lt-of-le-of-lt (mod-le _ 8) b)
-
-top-least : (n m r i : ℕ) → n % 2 ^ 45 < 2 ^ m → 2 ^ m ≤ 2 * (n % 2 ^ 45) + 1 → 1 ≤ r → r ≤ 15 → 3 * (15 - r) + i < m → m ≤ 3 * (15 - r) + 3 → 2 ^ i ≤ digit n r
-top-least n m r i h k l u g t =
-    let s : ℕ = 3 * (15 - r) in
-    let e : 2 ^ m ≤ 2 ^ 3 * 2 ^ s = rw (← (pow-add 2 3 s)) (pow-mono {j = 3 + s} (omega arith)) in
-    let b : n % 2 ^ 45 / 2 ^ s < 8 = div-lt-iff-lt-mul (pow-pos s) .1 (lt-of-lt-of-le h e) in
-    let a : 2 ^ suc (i + s) ≤ 2 ^ m = pow-mono (omega arith) in
-    let c : 2 ^ i * 2 ^ s ≤ n % 2 ^ 45 = rw (← (pow-add 2 i s)) (omega arith) in
-    rw (digit-low n s (omega arith), mod-eq-of-lt b) (le-div-iff-mul-le (pow-pos s) .1 c)
-
 -- all digits above the length are 0
 zero-above : (n m r : ℕ) → n % 2 ^ 45 < 2 ^ m → 1 ≤ r → r ≤ 15 → m ≤ 3 * (15 - r) → digit n r ≡ 0
-zero-above n m r h l u g = omega (arith, top-most n m r 0 h l u (omega arith))
+zero-above n m r h l u g =
+    digit-low n (3 * (15 - r)) (omega arith)
+    ∙ ap (λ (x : ℕ). x % 8) (div-eq-of-lt (lt-of-lt-of-le h (pow-mono g)))
+
+-- the digit that holds the top bit is not 0
+top-digit : (n m r : ℕ) → n % 2 ^ 45 < 2 ^ m → 2 ^ m ≤ 2 * (n % 2 ^ 45) + 1 → 1 ≤ r → r ≤ 15 → 3 * (15 - r) < m → m ≤ 3 * (15 - r) + 3 → digit n r ≡ 0 → ⊥
+top-digit n m r h k l u g t e =
+    let s : ℕ = 3 * (15 - r) in
+    let b : n % 2 ^ 45 / 2 ^ s < 8 = div-lt-iff-lt-mul (pow-pos s) .1 (lt-of-lt-of-le h (le-trans (pow-mono {j = 3 + s} (omega arith)) (subst (λ (x : ℕ). 2 ^ (3 + s) ≤ x) (pow-add 2 3 s) (le-refl _)))) in
+    let a : 2 ^ suc s ≤ 2 ^ m = pow-mono g in
+    let d : 1 ≤ n % 2 ^ 45 / 2 ^ s = le-div-iff-mul-le (pow-pos s) .1 (omega arith) in
+    let f : n % 2 ^ 45 / 2 ^ s ≡ 0 = sym (mod-eq-of-lt b) ∙ sym (digit-low n s (omega arith)) ∙ e in
+    omega arith
 
 first-none : (n k : ℕ) → ((i : ℕ) → i < k → digit n (suc i) ≡ 0) → firstOf n k ≡ 0
 unfolding firstOf
@@ -83,38 +78,4 @@ module _ (n k : ℕ) (l : 1 ≤ k) (u : k ≤ 15) where
       let w = lead n in
       let a : ℕ = (leadingZeros 64 (n % 2 ^ 45) - 19) / 3 in
       let z : (i : ℕ) → i < a → digit n (suc i) ≡ 0 = λ i p. zero-above n (w .0) (suc i) (w .3) (omega arith) (omega arith) (omega arith) in
-      rw add-one (sym (first-at n k a (omega arith) z (λ e. omega (arith, top-least n (w .0) (suc a) 0 (w .3) (w .4) (omega arith) (omega arith) (omega arith) (omega arith)))))
-
--- where the unused digits are 7 the leading zeros are divisible by 3 exactly if the first digit that is not 0 is 1
-module _ (n k : ℕ) (u : k ≤ 15) (rest : (r : ℕ) → k < r → r ≤ 15 → digit n r ≡ 7) where
-  abbrev zeros : ℕ
-  zeros = leadingZeros 64 (n % 2 ^ 45)
-
-  abbrev at : ℕ
-  at = (zeros - 19) / 3 + 1
-
-  -- the digit with the top bit
-  one : at ≤ 15 → zeros % 3 ≡ 0 → digit n at ≡ 1
-  one h z =
-      let w = lead n in
-      let a = top-most n (w .0) at 1 (w .3) (omega arith) h (omega (arith, w .1)) in
-      let b = top-least n (w .0) at 0 (w .3) (w .4) (omega arith) h (omega (arith, w .1)) (omega (arith, w .1)) in
-      omega arith
-
-  more : at ≤ 15 → (zeros % 3 ≡ 0 → ⊥) → 2 ≤ digit n at
-  more h z = let w = lead n in top-least n (w .0) at 1 (w .3) (w .4) (omega arith) h (omega (arith, w .1)) (omega (arith, w .1))
-
-  pub thirds : eqb (zeros % 3) 0 ≡ eqb (firstOf n k) 1
-  thirds = elim (decLe at k) [ yes h ↦ ⊎-elim (held h) (other h) (eq-zero-or-pos (zeros % 3)) | no h ↦ rw (unheld h, none h) ]
-    where
-      held : at ≤ k → zeros % 3 ≡ 0 → eqb (zeros % 3) 0 ≡ eqb (firstOf n k) 1
-      held h z = rw (← (within n k (omega arith) u h), one (omega arith) z, z)
-
-      other : at ≤ k → 0 < zeros % 3 → eqb (zeros % 3) 0 ≡ eqb (firstOf n k) 1
-      other h z = rw (ne-eqb (zeros % 3) 0 (λ q. omega arith), ← (within n k (omega arith) u h), ne-eqb (digit n at) 1 (λ q. omega (arith, more (omega arith) (λ w. omega arith))))
-
-      none : (at ≤ k → ⊥) → eqb (firstOf n k) 1 ≡ false
-      none h = let w = lead n in rw (first-none n k (λ i p. zero-above n (w .0) (suc i) (w .3) (omega arith) (omega arith) (omega (arith, w .1))))
-
-      unheld : (at ≤ k → ⊥) → eqb (zeros % 3) 0 ≡ false
-      unheld h = ne-eqb (zeros % 3) 0 (λ z. elim (decLe at 15) [ yes l ↦ omega (arith, one l z, rest at (omega arith) l) | no l ↦ omega (arith, lead n .1) ])
+      rw add-one (sym (first-at n k a (omega arith) z (top-digit n (w .0) (suc a) (w .3) (w .4) (omega arith) (omega arith) (omega arith) (omega arith))))

@@ -8,6 +8,7 @@ pub mod Sum
 pub mod Runs
 pub mod View
 pub mod Flags
+pub mod Leading
 pub mod Zeros
 pub mod Wordwise
 pub mod Cut

@@ -1,17 +1,15 @@
 -- A raw number is answered by the check exactly where it is valid. Assumes nothing.
-use mathlib.Core.Path.{_≡_, refl, sym, ap, _∙_, subst}
+use mathlib.Core.Path.{_≡_, refl, sym, ap, subst}
 use mathlib.Core.Bool.{Bool, true, false, not, _&&_, true≢false}
-use Prim.Native.Nat.{ℕ, _+_, _-_, _%_, _^_, _≤_, _<_}
+use Prim.Native.Nat.{ℕ, _+_, _-_, _≤_, _<_}
 use native.Mathlib.Nat.{mod-lt}
 use native.Mathlib.Omega.{arith}
-use lib.Count.{leadingZeros}
 use lib.Dec.{eqb}
 use borrow.Author.Tests.{eqb-true, eqb-false, ltb-false, eq-eqb, ne-eqb, le-ltb, not-false}
-use Rattle.index.specs.Layout.{topBit, modeOf, reservedOf, resOf, baseOf, digit, firstOf, isPentagonal, Valid}
+use Rattle.index.specs.Layout.{topBit, resOf, baseOf, digit, Valid}
 use Rattle.index.specs.Refusals.{Clear, answered}
 use Rattle.index.specs.Check.{someOther, cellRules, checkOf}
 use Rattle.index.proofs.Rules.{clear-answered, answered-clear}
-use Rattle.index.proofs.First.{thirds}
 use Rattle.index.proofs.Some.{some-off, off-some}
 
 and-off : (a : Bool) (x : ℕ) → a && eqb x 1 ≡ false → a ≡ true → x ≡ 1 → ⊥
@@ -26,10 +24,6 @@ pub sevens-past : (n : ℕ) → someOther n ≡ false → (r : ℕ) → resOf n 
 sevens-past n h r g l =
     let q : resOf n + (r - resOf n) ≡ r = omega arith in
     subst (λ (x : ℕ). digit n x ≡ 7) q (eqb-true _ _ (not-false _ (some-off _ (15 - resOf n) (r - resOf n) h (omega arith) (omega arith))))
-
--- the last test by the zeros above the first digit that is not 0, where the unused digits are 7
-pub deleted-by-zeros : (n b : ℕ) (p : Bool) → b ≡ baseOf n → p ≡ isPentagonal b → someOther n ≡ false → p && eqb (leadingZeros 64 (n % 2 ^ 45) % 3) 0 ≡ isPentagonal (baseOf n) && eqb (firstOf n (resOf n)) 1
-deleted-by-zeros n b p eb ep h = rw (ep, eb, thirds n (resOf n) (omega arith) (sevens-past n h))
 
 pub clear-valid : (n : ℕ) → Clear (cellRules n) → Valid n
 clear-valid n c =

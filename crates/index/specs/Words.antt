@@ -14,6 +14,10 @@ pub record Each (f : ℕ → ℕ) (x y : ℕ) : Type 0 where
 abbrev pub mark : ℕ → ℕ
 mark d = cond (eqb d 7) 1 0
 
+-- the lowest bit of a digit
+abbrev pub low : ℕ → ℕ
+low d = d % 2
+
 -- k digits that are 1
 unfoldable pub ones : ℕ → ℕ
 ones zero = 0

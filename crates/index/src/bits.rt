@@ -2,7 +2,7 @@
 ghost use mathlib.Core.Path.{_≡_};
 ghost use mathlib.Core.Bool.{cond};
 ghost use Prim.Native.Nat.{_≤_};
-ghost use Rattle.index.specs.Layout.{topBit, modeOf, reservedOf, resOf, baseOf, digit, firstOf};
+ghost use Rattle.index.specs.Layout.{topBit, reservedOf, resOf, baseOf, digit, firstOf};
 use crate::Resolution;
 
 // The 45 bits of the digits, and one more.
@@ -28,12 +28,6 @@ pub(crate) fn get_top(n: u64) -> u64
     ensures { λ r. ⌜ r ≡ topBit n ⌝ }
 {
     (n >> 63) % 2
-}
-
-pub(crate) fn get_mode(n: u64) -> u64
-    ensures { λ r. ⌜ r ≡ modeOf n ⌝ }
-{
-    (n >> 59) % 16
 }
 
 pub(crate) fn get_reserved(n: u64) -> u64

@@ -1,28 +1,30 @@
 // The check of a raw number: the one way from a number to a cell.
 ghost use mathlib.Core.Path.{_≡_};
 ghost use mathlib.Core.Bool.{true, cond};
-ghost use Prim.Native.Nat.{_-_, _%_, _^_, _≤_};
-ghost use lib.Count.{leadingZeros};
+ghost use Prim.Native.Nat.{_-_, _≤_};
 ghost use lib.Dec.{eqb};
+ghost use Rattle.index.specs.Layout.{isPentagonal};
 ghost use Rattle.index.specs.Refusals.{answered, refused};
 ghost use Rattle.index.specs.Check.{checkOf, told};
-ghost use Rattle.index.specs.Words.{Each, mark, ones};
+ghost use Rattle.index.specs.Words.{Each, mark, ones, low};
 use crate::Cell;
 use crate::Checked;
 use crate::Refusal;
 use crate::Resolution;
-use crate::base_cell::is_pentagon;
-use crate::bits::DIGITS_END;
+use crate::base_cell::pentagon_bit;
 use crate::bits::ONES;
 use crate::bits::get_base_cell;
-use crate::bits::get_mode;
 use crate::bits::get_reserved;
 use crate::bits::get_resolution;
 use crate::bits::get_top;
 use crate::bits::sel;
+use std::num::wrapping_sub_u64;
 
 // The bits above the resolution: mode 1.
 const CELL_HEAD: u64 = 8;
+
+// All bits of each digit but the lowest.
+const SIXES: u64 = 0o666666666666666;
 
 // One in the place of each digit that is 7.
 fn marks(n: u64) -> u64
@@ -39,47 +41,43 @@ fn unused(r: Resolution) -> u64
     ONES >> (3 * r.0)
 }
 
-// A first digit 1 has its top bit where the zeros above it are divisible by 3.
-fn is_deleted(n: u64) -> bool
-    ensures { λ t. ⌜ t ≡ eqb (leadingZeros 64 (n % 2 ^ 45) % 3) 0 ⌝ }
+// The low bits of the digits, in pentagon base cells; elsewhere 0. They exceed the digits' other bits exactly if the first digit that is not 0 is 1.
+fn low_bits(n: u64, base: u64) -> u64
+    requires { ⌜ base ≤ 127 ⌝ }
+    ensures { λ y. ⌜ Each (λ d. cond (isPentagonal base) (low d) 0) n y ⌝ }
 {
-    u64::leading_zeros(n % DIGITS_END) % 3 == 0
+    let bit = pentagon_bit(base);
+    (n & ONES) * bit
 }
 
-// The refusal's number or 0, from the last test to the first, so that none is a branch. A used 7 makes the marks greater than `u`; else an unused digit
-// that is not 7 makes them less; and where they are equal, the zeros above the first digit are divisible by 3 exactly if that digit is 1.
+// The refusal's number or 0, from the last test to the first, so that none is a branch. A test need only be right where those before it fail: the mode is
+// read with the top bit; a used 7 makes the marks greater than `u`; else an unused digit that is not 7 makes them less; else no unused digit is a first 1.
 fn refusal_number(n: u64) -> u64
     ensures { λ k. ⌜ (k ≤ 7) × (checkOf n ≡ cond (eqb k 0) (answered n) (refused k)) ⌝ }
 {
     let base = get_base_cell(n);
     let u = unused(get_resolution(n));
     let s = marks(n);
-    let deleted = is_deleted(n);
-    let pent = is_pentagon(base);
-    let k7 = sel(pent & deleted, 7, 0);
+    let k7 = sel((n & SIXES) < low_bits(n, base), 7, 0);
     let k6 = sel(s < u, 6, k7);
     let k5 = sel(u < s, 5, k6);
     let k4 = sel(121 < base, 4, k5);
     let k3 = sel(get_reserved(n) != 0, 3, k4);
-    let k2 = sel(get_mode(n) != 1, 2, k3);
+    let k2 = sel(n >> 59 != 1, 2, k3);
     sel(get_top(n) == 1, 1, k2)
 }
 
-// Where it holds, no test refuses the number.
+// Where it holds, no test refuses the number. Each part is 0 where its tests pass; of two numbers below 2^45 bit 63 of the difference says which is less.
 fn is_cell(n: u64) -> bool
     ensures { λ t. ⌜ (t ≡ true → checkOf n ≡ answered n) ⌝ }
 {
     let base = get_base_cell(n);
     let u = unused(get_resolution(n));
     let s = marks(n);
-    let head = n >> 56 == CELL_HEAD;
-    if head & (base < 122) & (s == u) {
-        if is_pentagon(base) {
-            return !is_deleted(n);
-        }
-        return true;
-    }
-    false
+    let head = (n >> 56) ^ CELL_HEAD;
+    let beyond = (base + 6) >> 7;
+    let deleted = wrapping_sub_u64(n & SIXES, low_bits(n, base)) >> 63;
+    head | beyond | (s ^ u) | deleted == 0
 }
 
 // The same number, for numbers that mostly are cells.

@@ -1,6 +1,6 @@
 -- A test at each number below n, computed at once, and carried to each. Assumes nothing.
-use mathlib.Core.Path.{_≡_, refl, subst, sym}
-use mathlib.Core.Bool.{Bool, true, false, _&&_, Bool·beq}
+use mathlib.Core.Path.{_≡_, subst, sym}
+use mathlib.Core.Bool.{Bool, true, false, _&&_}
 use mathlib.Core.Logic.{⊎-elim}
 use Prim.Native.Nat.{ℕ, zero, suc, _<_, _≤_}
 use native.Mathlib.Nat.{le-of-suc-le-suc, eq-or-lt-of-le, not-suc-le-zero}
@@ -43,13 +43,3 @@ at-lt n m f t k h = ltb→lt (f k) m (at n (λ (k : ℕ). ltb (f k) m) t k h)
 
 pub at-le : (n m : ℕ) (f : ℕ → ℕ) → T (every n (λ k. leb (f k) m)) → (k : ℕ) → k < n → f k ≤ m
 at-le n m f t k h = leb→le (f k) m (at n (λ (k : ℕ). leb (f k) m) t k h)
-
--- two tests that agree at each number below n
-alike : (a b : Bool) → T (Bool·beq a b) → a ≡ b
-alike true true t = refl
-alike true false t = absurd t
-alike false true t = absurd t
-alike false false t = refl
-
-pub at-same : (n : ℕ) (f g : ℕ → Bool) → T (every n (λ k. Bool·beq (f k) (g k))) → (k : ℕ) → k < n → f k ≡ g k
-at-same n f g t k h = alike (f k) (g k) (at n (λ (k : ℕ). Bool·beq (f k) (g k)) t k h)
