@@ -6,10 +6,9 @@ ghost use Rattle.index.specs.Check.{checkOf};
 ghost use Rattle.entry.specs.Answers.{toldNumber};
 ghost use Rattle.block_entries.specs.Blocks.{blockOf, valuesAfter, refusalsAfter};
 ghost use Rattle.cell_entries.specs.Cells.{positionOf, ancestorOf};
-use cell_entries::ancestor;
 use cell_entries::below;
+use cell_entries::cut;
 use entry::Number;
-use index::inside::likely_number;
 use index::inside::refusal;
 
 // One of the two lent blocks has fewer than n elements.
@@ -26,12 +25,12 @@ fn is_short(n: usize, values: usize, refusals: usize) -> bool
 fn kept(raw: u64) -> Number
     ensures { λ r. ⌜ toldNumber r ≡ checkOf raw ⌝ }
 {
-    let k = likely_number(raw);
-    if k == 0 {
-        return Number::Is(raw);
-    }
-    let x = refusal(k as u16);
-    Number::Refused(x)
+    let a = index::check(raw);
+    let index::Checked::Valid(_cell) = a else {
+        let x = a.refusal();
+        return Number::Refused(x);
+    };
+    Number::Is(raw)
 }
 
 pub fn check_block(cells: &[u64], values: &mut [u64], refusals: &mut [u16]) -> Number
@@ -65,7 +64,8 @@ pub fn ancestor_block(
     }
     let mut i = 0;
     while i < n {
-        let a = ancestor(cells[i], coarser);
+        let c = cells[i];
+        let a = cut(c, index::check(c), coarser);
         values[i] = a.value();
         refusals[i] = a.refusal();
         i += 1;
@@ -88,7 +88,9 @@ pub fn position_block(
     let checked = index::check(first);
     let mut i = 0;
     while i < n {
-        let p = below(first, checked, seconds[i]);
+        let s = seconds[i];
+        let b = index::check(s);
+        let p = below(first, checked, s, b);
         values[i] = p.value();
         refusals[i] = p.refusal();
         i += 1;

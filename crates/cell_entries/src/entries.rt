@@ -36,7 +36,7 @@ pub fn check(raw: u64) -> Checked
 pub fn count(raw: u64, target: u32) -> Number
     ensures { λ r. ⌜ toldNumber r ≡ countOf raw target ⌝ }
 {
-    let a = finer(raw, target);
+    let a = finer(raw, index::check(raw), target);
     let Wanted::At(cell, t) = a else {
         return Number::Refused(a.refusal());
     };
@@ -46,7 +46,7 @@ pub fn count(raw: u64, target: u32) -> Number
 pub fn child_at(raw: u64, target: u32, position: u64) -> Number
     ensures { λ r. ⌜ toldNumber r ≡ childAtOf raw target position ⌝ }
 {
-    let a = finer(raw, target);
+    let a = finer(raw, index::check(raw), target);
     let Wanted::At(cell, t) = a else {
         return Number::Refused(a.refusal());
     };
@@ -59,7 +59,7 @@ pub fn child_at(raw: u64, target: u32, position: u64) -> Number
 pub fn cursor(raw: u64, target: u32) -> Started
     ensures { λ r. ⌜ toldStarted r ≡ cursorOf raw target ⌝ }
 {
-    let a = finer(raw, target);
+    let a = finer(raw, index::check(raw), target);
     let Wanted::At(cell, t) = a else {
         return Started::Refused(a.refusal());
     };
@@ -88,7 +88,7 @@ fn fill(cell: Cell, t: Resolution, buf: &mut [u64]) -> Number
 pub fn list(raw: u64, target: u32, buf: &mut [u64]) -> Number
     ensures { λ r. ⌜ (toldNumber r ≡ listOf raw target (length (now (buf .entry)))) × (now (buf .exit) ≡ afterwards (listOf raw target (length (now (buf .entry)))) raw target (now (buf .entry))) ⌝ }
 {
-    let a = finer(raw, target);
+    let a = finer(raw, index::check(raw), target);
     let Wanted::At(cell, t) = a else {
         return Number::Refused(a.refusal());
     };
@@ -109,15 +109,14 @@ pub fn list_short(raw: u64, buf: &mut [u64]) -> Number
     fill(cell, resolution(target), buf)
 }
 
-// The position below a first cell whose check is handed in.
-pub fn below(first: u64, a: index::Checked, second: u64) -> Number
-    requires { ⌜ told a ≡ checkOf first ⌝ }
+// The position of two cells whose checks are handed in.
+pub fn below(first: u64, a: index::Checked, second: u64, b: index::Checked) -> Number
+    requires { ⌜ (told a ≡ checkOf first) × (told b ≡ checkOf second) ⌝ }
     ensures { λ r. ⌜ toldNumber r ≡ positionOf first second ⌝ }
 {
     let index::Checked::Valid(cell) = a else {
         return Number::Refused(a.refusal());
     };
-    let b = index::check(second);
     let index::Checked::Valid(under) = b else {
         return Number::Refused(b.refusal());
     };
@@ -131,13 +130,14 @@ pub fn below(first: u64, a: index::Checked, second: u64) -> Number
 pub fn position(first: u64, second: u64) -> Number
     ensures { λ r. ⌜ toldNumber r ≡ positionOf first second ⌝ }
 {
-    below(first, index::check(first), second)
+    below(first, index::check(first), second, index::check(second))
 }
 
-pub fn ancestor(raw: u64, coarser: u32) -> Number
+// The ancestor of a cell whose check is handed in.
+pub fn cut(raw: u64, a: index::Checked, coarser: u32) -> Number
+    requires { ⌜ told a ≡ checkOf raw ⌝ }
     ensures { λ r. ⌜ toldNumber r ≡ ancestorOf raw coarser ⌝ }
 {
-    let a = index::check(raw);
     let index::Checked::Valid(cell) = a else {
         return Number::Refused(a.refusal());
     };
@@ -149,4 +149,10 @@ pub fn ancestor(raw: u64, coarser: u32) -> Number
         return Number::Refused(refusal(9));
     }
     Number::Is(number_of(index::inside::ancestor(cell, resolution(r))))
+}
+
+pub fn ancestor(raw: u64, coarser: u32) -> Number
+    ensures { λ r. ⌜ toldNumber r ≡ ancestorOf raw coarser ⌝ }
+{
+    cut(raw, index::check(raw), coarser)
 }

@@ -1,6 +1,7 @@
 // What every entry with a cell and a wanted finer resolution judges first: 1 to 7, then 8, then 9.
 ghost use mathlib.Core.Path.{_≡_};
 ghost use Rattle.index.specs.Refusals.{numberOf};
+ghost use Rattle.index.specs.Check.{checkOf, told};
 ghost use Rattle.cell_entries.specs.Cells.{finerOf, toldWanted};
 use index::Cell;
 use index::Refusal;
@@ -27,10 +28,11 @@ impl Wanted {
     }
 }
 
-pub(crate) fn finer(raw: u64, target: u32) -> Wanted
+// The check is handed in, so that each entry has its own: one that entries share is a call, with its answer in memory.
+pub(crate) fn finer(raw: u64, a: index::Checked, target: u32) -> Wanted
+    requires { ⌜ told a ≡ checkOf raw ⌝ }
     ensures { λ r. ⌜ toldWanted r ≡ finerOf raw target ⌝ }
 {
-    let a = index::check(raw);
     let index::Checked::Valid(cell) = a else {
         return Wanted::Refused(a.refusal());
     };

@@ -3,12 +3,13 @@ mod entries;
 mod finer;
 
 pub use entries::ancestor;
-// No entry: it takes a check, and crosses our own border only.
+// No entry, nor is `cut`: they take checks, and cross our own border only.
 pub use entries::below;
 pub use entries::check;
 pub use entries::child_at;
 pub use entries::count;
 pub use entries::cursor;
+pub use entries::cut;
 pub use entries::list;
 pub use entries::list_short;
 pub use entries::next;

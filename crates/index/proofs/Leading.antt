@@ -10,12 +10,17 @@ use lib.Dec.{eqb, ltb}
 use borrow.Author.Tests.{ne-eqb, lt-ltb, le-ltb}
 use Rattle.index.specs.Layout.{resOf, baseOf, digit, firstOf, isPentagonal}
 use Rattle.index.specs.Check.{someOther}
-use Rattle.index.specs.Words.{Each, low, high}
+use Rattle.index.specs.Words.{Each, low}
 use Rattle.index.proofs.Runs.{run, run-zero, run-suc}
 use Rattle.index.proofs.View.{low-split}
 use Rattle.index.proofs.Digitwise.{and8, mask-at, window}
 use Rattle.index.proofs.Validity.{sevens-past}
 
+-- the bits of a digit but the lowest
+abbrev pub high : ℕ → ℕ
+high d = d / 2 * 2
+
+-- the words of the two parts
 pub lows : (n b k : ℕ) → k ≡ cond (isPentagonal b) 1 0 → Each (λ d. cond (isPentagonal b) (low d) 0) n (bitAnd n 5026338869833 * k)
 lows n b k e = go (isPentagonal b) e
   where

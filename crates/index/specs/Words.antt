@@ -14,12 +14,9 @@ pub record Each (f : ℕ → ℕ) (x y : ℕ) : Type 0 where
 abbrev pub mark : ℕ → ℕ
 mark d = cond (eqb d 7) 1 0
 
--- the lowest bit of a digit, and its other bits
+-- the lowest bit of a digit
 abbrev pub low : ℕ → ℕ
 low d = d % 2
-
-abbrev pub high : ℕ → ℕ
-high d = d / 2 * 2
 
 -- k digits that are 1
 unfoldable pub ones : ℕ → ℕ

@@ -16,7 +16,6 @@ use crate::bits::get_base_cell;
 use crate::bits::get_direction;
 use crate::bits::get_resolution;
 pub use crate::parent::ancestor;
-pub use crate::raw::likely_number;
 pub use crate::turn::pentagon_rotate60;
 pub use crate::turn::rotate60;
 pub use crate::turn::set_direction;

@@ -81,7 +81,7 @@ fn is_cell(n: u64) -> bool
 }
 
 // The same number, for numbers that mostly are cells.
-pub fn likely_number(n: u64) -> u64
+fn likely_number(n: u64) -> u64
     ensures { λ k. ⌜ (k ≤ 7) × (checkOf n ≡ cond (eqb k 0) (answered n) (refused k)) ⌝ }
 {
     if is_cell(n) {

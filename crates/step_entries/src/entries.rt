@@ -1,6 +1,7 @@
 // Entries on turns of cells, centres, the walk and the step.
 ghost use mathlib.Core.Path.{_≡_};
 ghost use mathlib.Core.Bool.{true, false};
+ghost use Rattle.index.specs.Check.{checkOf, told};
 ghost use Rattle.entry.specs.Answers.{toldNumber, toldPoint, toldWalked, toldStepped};
 ghost use Rattle.grid.specs.Steps.{toldStep};
 ghost use Rattle.step_entries.specs.Steps.{turnOf, pentagonTurnOf, centreOf, ReadsBack, walkOf, stepOf};
@@ -20,10 +21,11 @@ use index::inside::resolution;
 use plane::direction::value;
 use plane::ijk::IJK;
 
-fn turn(raw: u64, count: u32, ccw: bool) -> Number
+// The check is handed in, so that each entry has its own: one that entries share is a call, with its answer in memory.
+fn turn(raw: u64, a: index::Checked, count: u32, ccw: bool) -> Number
+    requires { ⌜ told a ≡ checkOf raw ⌝ }
     ensures { λ r. ⌜ toldNumber r ≡ turnOf ccw raw count ⌝ }
 {
-    let a = index::check(raw);
     let index::Checked::Valid(cell) = a else {
         return Number::Refused(a.refusal());
     };
@@ -36,19 +38,19 @@ fn turn(raw: u64, count: u32, ccw: bool) -> Number
 pub fn turn_ccw(raw: u64, count: u32) -> Number
     ensures { λ r. ⌜ toldNumber r ≡ turnOf true raw count ⌝ }
 {
-    turn(raw, count, true)
+    turn(raw, index::check(raw), count, true)
 }
 
 pub fn turn_cw(raw: u64, count: u32) -> Number
     ensures { λ r. ⌜ toldNumber r ≡ turnOf false raw count ⌝ }
 {
-    turn(raw, count, false)
+    turn(raw, index::check(raw), count, false)
 }
 
-fn pentagon_turn(raw: u64, ccw: bool) -> Number
+fn pentagon_turn(raw: u64, a: index::Checked, ccw: bool) -> Number
+    requires { ⌜ told a ≡ checkOf raw ⌝ }
     ensures { λ r. ⌜ toldNumber r ≡ pentagonTurnOf ccw raw ⌝ }
 {
-    let a = index::check(raw);
     let index::Checked::Valid(cell) = a else {
         return Number::Refused(a.refusal());
     };
@@ -58,13 +60,13 @@ fn pentagon_turn(raw: u64, ccw: bool) -> Number
 pub fn pentagon_turn_ccw(raw: u64) -> Number
     ensures { λ r. ⌜ toldNumber r ≡ pentagonTurnOf true raw ⌝ }
 {
-    pentagon_turn(raw, true)
+    pentagon_turn(raw, index::check(raw), true)
 }
 
 pub fn pentagon_turn_cw(raw: u64) -> Number
     ensures { λ r. ⌜ toldNumber r ≡ pentagonTurnOf false raw ⌝ }
 {
-    pentagon_turn(raw, false)
+    pentagon_turn(raw, index::check(raw), false)
 }
 
 pub fn centre(raw: u64) -> Point

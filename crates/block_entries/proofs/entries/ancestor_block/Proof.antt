@@ -36,14 +36,17 @@ loop-holds c =
     let s = t .before .before .before .before .args in
     fills.begin (at (s .coarser)) (s .cells .now) (s .values .now) (s .refusals .now) (t .is-short .result) (t .is-short .ensures) (c .if1 .left)
 
-mul-ancestor : tie.Need-mul-ancestor Inv-loop μ-loop
-mul-ancestor c = search needs
+mul-c : tie.Need-mul-c Inv-loop μ-loop
+mul-c c = search needs
 
-shared-slice-read-ancestor : tie.Need-shared-slice-read-ancestor Inv-loop μ-loop
-shared-slice-read-ancestor c = search needs
+shared-slice-read-c : tie.Need-shared-slice-read-c Inv-loop μ-loop
+shared-slice-read-c c = search needs
 
-ancestor-requires : tie.Need-ancestor-requires Inv-loop μ-loop
-ancestor-requires c κs = search needs
+check-requires : tie.Need-check-requires Inv-loop μ-loop
+check-requires c κs = search needs
+
+cut-requires : tie.Need-cut-requires Inv-loop μ-loop
+cut-requires c κs = search needs
 
 value-requires : tie.Need-value-requires Inv-loop μ-loop
 value-requires c κs = search needs
@@ -52,7 +55,7 @@ mul-values : tie.Need-mul-values Inv-loop μ-loop
 mul-values c = search needs
 
 slice-write-values : tie.Need-slice-write-values Inv-loop μ-loop
-slice-write-values c = let w = c .before .before .before .before .loop .inv in let l = w .room in let e = w .long in let h = c .before .before .before .loop-test .taken in omega arith
+slice-write-values c = let w = c .before .before .before .before .before .loop .inv in let l = w .room in let e = w .long in let h = c .before .before .before .before .loop-test .taken in omega arith
 
 refusal-requires-2 : tie.Need-refusal-requires-2 Inv-loop μ-loop
 refusal-requires-2 c κs = search needs
@@ -61,20 +64,20 @@ mul-refusals : tie.Need-mul-refusals Inv-loop μ-loop
 mul-refusals c = search needs
 
 slice-write-refusals : tie.Need-slice-write-refusals Inv-loop μ-loop
-slice-write-refusals c = let w = c .before .before .before .before .before .loop .inv in let l = w .room-too in let e = w .long-too in let h = c .before .before .before .before .loop-test .taken in omega arith
+slice-write-refusals c = let w = c .before .before .before .before .before .before .loop .inv in let l = w .room-too in let e = w .long-too in let h = c .before .before .before .before .before .loop-test .taken in omega arith
 
 add-i : tie.Need-add-i Inv-loop μ-loop
 add-i c = search needs
 
 loop-less : tie.Need-loop-less Inv-loop μ-loop
-loop-less c = let l = c .before .before .before .before .loop-test .taken in omega arith
+loop-less c = let l = c .before .before .before .before .before .loop-test .taken in omega arith
 
 loop-again : tie.Need-loop-again Inv-loop μ-loop
 loop-again c =
     let a = c .before .before in
-    let t = a .before .before in
+    let t = a .before .before .before in
     let s = t .before .before .before .before .before .before .before .args in
-    fills.again (at (s .coarser)) (s .cells .now) (s .values .now) (s .refusals .now) _ _ _ (t .before .loop .inv) _ _ _ (t .loop-test .taken) (a .ancestor .ensures) (c .before .value .ensures) (c .refusal2 .ensures)
+    fills.again (at (s .coarser)) (s .cells .now) (s .values .now) (s .refusals .now) _ _ _ (t .before .loop .inv) _ _ _ (t .loop-test .taken) (a .cut .ensures) (c .before .value .ensures) (c .refusal2 .ensures)
 
 same-length : tie.Need-same-length Inv-loop μ-loop
 same-length c = c .before .loop .inv .long
@@ -97,9 +100,10 @@ ancestor-block-spec =
     refusal-requires
     returns
     loop-holds
-    mul-ancestor
-    shared-slice-read-ancestor
-    ancestor-requires
+    mul-c
+    shared-slice-read-c
+    check-requires
+    cut-requires
     value-requires
     mul-values
     slice-write-values

@@ -1,31 +1,34 @@
 -- `block_entries::entries::kept` meets its contract. Assumes nothing.
 use borrow.Author.Needs.{needs}
-use mathlib.Core.Path.{_≡_, sym, ap, _∙_}
-use native.Mathlib.Omega.{arith}
+use mathlib.Core.Path.{sym, ap, _∙_}
 use Rattle.index.specs.Refusals.{refused}
-use Rattle.index.proofs.Rules.{number-answered, number-refused}
+use Rattle.index.proofs.Answers.{of-cell, of-refusal}
+use Rattle.index.proofs.Validity.{valid-accepted}
 use Rattle.block_entries.proofs.entries.kept.Statement.{statement}
 use Rattle.block_entries.proofs.entries.kept.Tie as tie
 
-likely-number-requires : tie.Need-likely-number-requires
-likely-number-requires c κs = search needs
+check-requires : tie.Need-check-requires
+check-requires c κs = search needs
 
-returns : tie.Need-returns
-returns c =
-    let k = c .before .likely-number in
-    let e : k .result ≡ 0 = omega arith in
-    sym (k .ensures .1 ∙ number-answered (c .before .before .args .raw) (k .result) e)
+enum-known-a : tie.Need-enum-known-a
+enum-known-a c = search needs
 
-cast-refusal : tie.Need-cast-refusal
-cast-refusal c = search needs
+enum-told : tie.Need-enum-told
+enum-told c = search needs
 
 refusal-requires : tie.Need-refusal-requires
 refusal-requires c κs = search needs
 
+returns : tie.Need-returns
+returns c =
+    let a = c .before .before .before .check in
+    ap refused (c .refusal .ensures) ∙ sym (of-refusal (c .before .before .before .before .args .raw) (a .result) (c .before .before .match .keys2) (a .ensures))
+
 returns-2 : tie.Need-returns-2
 returns-2 c =
-    let k = c .before .before .likely-number in
-    ap refused (c .refusal .ensures) ∙ sym (k .ensures .1 ∙ number-refused (c .before .before .before .args .raw) (k .result) (λ z. omega arith))
+    let t = c .before .before .before in
+    let n = t .before .args .raw in
+    sym (valid-accepted n (of-cell n (t .check .result) _ (c .before .a .given .1) (t .check .ensures) .1))
 
 pub kept-spec : {M : Type 1} → statement M
-kept-spec = tie.close (tie.spec likely-number-requires returns cast-refusal refusal-requires returns-2)
+kept-spec = tie.close (tie.spec check-requires enum-known-a enum-told refusal-requires returns returns-2)

@@ -35,14 +35,17 @@ loop-holds c =
     let s = t .before .before .before .before .args in
     fills.begin (positionOf (s .first)) (s .seconds .now) (s .values .now) (s .refusals .now) (t .is-short .result) (t .is-short .ensures) (c .before .if1 .left)
 
-mul-below : tie.Need-mul-below Inv-loop μ-loop
-mul-below c = search needs
+mul-s : tie.Need-mul-s Inv-loop μ-loop
+mul-s c = search needs
 
-shared-slice-read-below : tie.Need-shared-slice-read-below Inv-loop μ-loop
-shared-slice-read-below c = search needs
+shared-slice-read-s : tie.Need-shared-slice-read-s Inv-loop μ-loop
+shared-slice-read-s c = search needs
+
+check-requires-2 : tie.Need-check-requires-2 Inv-loop μ-loop
+check-requires-2 c κs = search needs
 
 below-requires : tie.Need-below-requires Inv-loop μ-loop
-below-requires c κs = c .before .before .before .check .ensures
+below-requires c κs = search needs
 
 value-requires : tie.Need-value-requires Inv-loop μ-loop
 value-requires c κs = search needs
@@ -51,7 +54,7 @@ mul-values : tie.Need-mul-values Inv-loop μ-loop
 mul-values c = search needs
 
 slice-write-values : tie.Need-slice-write-values Inv-loop μ-loop
-slice-write-values c = let w = c .before .before .before .before .loop .inv in let l = w .room in let e = w .long in let h = c .before .before .before .loop-test .taken in omega arith
+slice-write-values c = let w = c .before .before .before .before .before .loop .inv in let l = w .room in let e = w .long in let h = c .before .before .before .before .loop-test .taken in omega arith
 
 refusal-requires-2 : tie.Need-refusal-requires-2 Inv-loop μ-loop
 refusal-requires-2 c κs = search needs
@@ -60,18 +63,18 @@ mul-refusals : tie.Need-mul-refusals Inv-loop μ-loop
 mul-refusals c = search needs
 
 slice-write-refusals : tie.Need-slice-write-refusals Inv-loop μ-loop
-slice-write-refusals c = let w = c .before .before .before .before .before .loop .inv in let l = w .room-too in let e = w .long-too in let h = c .before .before .before .before .loop-test .taken in omega arith
+slice-write-refusals c = let w = c .before .before .before .before .before .before .loop .inv in let l = w .room-too in let e = w .long-too in let h = c .before .before .before .before .before .loop-test .taken in omega arith
 
 add-i : tie.Need-add-i Inv-loop μ-loop
 add-i c = search needs
 
 loop-less : tie.Need-loop-less Inv-loop μ-loop
-loop-less c = let l = c .before .before .before .before .loop-test .taken in omega arith
+loop-less c = let l = c .before .before .before .before .before .loop-test .taken in omega arith
 
 loop-again : tie.Need-loop-again Inv-loop μ-loop
 loop-again c =
     let a = c .before .before in
-    let t = a .before .before in
+    let t = a .before .before .before in
     let s = t .before .before .before .before .before .before .before .before .args in
     fills.again (positionOf (s .first)) (s .seconds .now) (s .values .now) (s .refusals .now) _ _ _ (t .before .loop .inv) _ _ _ (t .loop-test .taken) (a .below .ensures) (c .before .value .ensures) (c .refusal2 .ensures)
 
@@ -97,8 +100,9 @@ position-block-spec =
     returns
     check-requires
     loop-holds
-    mul-below
-    shared-slice-read-below
+    mul-s
+    shared-slice-read-s
+    check-requires-2
     below-requires
     value-requires
     mul-values

@@ -15,8 +15,11 @@ use Rattle.cell_entries.proofs.Finers.{Ready, ready, asked, refuse-fine
 use Rattle.cell_entries.proofs.entries.child_at.Statement.{statement}
 use Rattle.cell_entries.proofs.entries.child_at.Tie as tie
 
+check-requires : tie.Need-check-requires
+check-requires c κs = search needs
+
 finer-requires : tie.Need-finer-requires
-finer-requires c κs = search needs
+finer-requires c κs = c .check .ensures
 
 enum-known-a : tie.Need-enum-known-a
 enum-known-a c = search needs
@@ -34,12 +37,12 @@ number-of-requires : tie.Need-number-of-requires
 number-of-requires c κs = search needs
 
 -- the arm of a cell
-got : (c : tie.After-known-told) → let s = c .before .before .before .before .args in Ready (s .raw) (s .target) (c .before .a .given .0 .0 .0) (c .before .a .given .0 .1 .0 .0)
+got : (c : tie.After-known-told) → let s = c .before .before .before .before .before .args in Ready (s .raw) (s .target) (c .before .a .given .0 .0 .0) (c .before .a .given .0 .1 .0 .0)
 got c = let a = c .before .before .before .finer in ready _ _ (a .result) _ _ (c .before .a .given .1) (a .ensures)
 
 returns : tie.Need-returns
 returns c =
-    let s = c .before .before .before .before .args in
+    let s = c .before .before .before .before .before .args in
     let a = c .before .before .before .finer in
     refuse-finer (s .raw) (s .target) ((11 when not (ltb (s .position) (countOf (s .raw) (s .target)))) ∷ []) (childAt (s .raw) (s .target) (s .position)) (a .result) _ (c .before .before .match .keys2) (a .ensures) (c .refusal .ensures)
 
@@ -48,7 +51,7 @@ children-count-requires c κs = asked _ _ _ _ (got c)
 
 returns-2 : tie.Need-returns-2
 returns-2 c =
-    let s = c .before .before .before .before .before .before .before .args in
+    let s = c .before .before .before .before .before .before .before .before .args in
     let r = got (c .before .before .before) in
     let k = c .before .before .children-count .ensures ∙ ap₂ countOf (r .cell) (r .target) in
     ap refused (c .refusal2 .ensures)
@@ -58,11 +61,11 @@ child-at-requires : tie.Need-child-at-requires
 child-at-requires c κs =
     let r = got (c .before .before) in
     let a = asked _ _ _ _ r in
-    (a .0, a .1, a .2, subst (λ (x : ℕ). c .before .before .before .before .before .before .args .position < x) (c .before .children-count .ensures) (c .if1 .left))
+    (a .0, a .1, a .2, subst (λ (x : ℕ). c .before .before .before .before .before .before .before .args .position < x) (c .before .children-count .ensures) (c .if1 .left))
 
 returns-3 : tie.Need-returns-3
 returns-3 c =
-    let s = c .before .before .before .before .before .before .before .before .args in
+    let s = c .before .before .before .before .before .before .before .before .before .args in
     let r = got (c .before .before .before .before) in
     let k = c .before .before .before .children-count .ensures ∙ ap₂ countOf (r .cell) (r .target) in
     ap answered (c .number-of .ensures ∙ c .before .child-at .ensures .0 ∙ ap₂ (λ (n t : ℕ). childAt n t (s .position)) (r .cell) (r .target))
@@ -72,6 +75,7 @@ pub child-at-spec : {M : Type 1} → statement M
 child-at-spec =
     tie.close
     (tie.spec
+    check-requires
     finer-requires
     enum-known-a
     enum-told

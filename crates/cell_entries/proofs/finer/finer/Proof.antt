@@ -16,9 +16,6 @@ use Rattle.cell_entries.proofs.finer.finer.Tie as tie
 more : ℕ → ℕ → List Rule
 more n t = resolutionRule t ∷ (9 when ltb t (resOf n)) ∷ []
 
-check-requires : tie.Need-check-requires
-check-requires c κs = search needs
-
 enum-known-a : tie.Need-enum-known-a
 enum-known-a c = search needs
 
@@ -44,20 +41,20 @@ resolution-requires : tie.Need-resolution-requires
 resolution-requires c κs = search needs
 
 -- the arm of a cell
-cell : (c : tie.After-known-told) → let n = c .before .before .before .before .args .raw in (c .before .a .given .0 .0 .0 ≡ n) × Valid n
-cell c = let a = c .before .before .before .check in of-cell _ (a .result) _ (c .before .a .given .1) (a .ensures)
+cell : (c : tie.After-known-told) → let n = c .before .before .before .args .raw in (c .before .a .given .0 .0 .0 ≡ n) × Valid n
+cell c = let a = c .before .before .before in of-cell _ (a .args .a) _ (c .before .a .given .1) (a .pre)
 
 returns : tie.Need-returns
 unfolding more
 returns c =
-    let s = c .before .before .before .before .args in
-    let a = c .before .before .before .check in
-    ap refused (c .refusal .ensures) ∙ sym (hit-cell (s .raw) (more (s .raw) (s .target)) _ _ (of-refusal (s .raw) (a .result) (c .before .before .match .keys2) (a .ensures)))
+    let s = c .before .before .before .args in
+    let a = c .before .before .before in
+    ap refused (c .refusal .ensures) ∙ sym (hit-cell (s .raw) (more (s .raw) (s .target)) _ _ (of-refusal (s .raw) (a .args .a) (c .before .before .match .keys2) (a .pre)))
 
 returns-2 : tie.Need-returns-2
 unfolding more
 returns-2 c =
-    let s = c .before .before .before .before .before .before .args in
+    let s = c .before .before .before .before .before .args in
     let v = cell (c .before .before) in
     ap refused (c .refusal2 .ensures) ∙ sym (past-cell (s .raw) (more (s .raw) (s .target)) _ (v .1) ∙ hit _ _ _ _ (lt-ltb _ _ (c .before .if1 .taken)))
 
@@ -69,7 +66,7 @@ returns-3 : tie.Need-returns-3
 unfolding more
 returns-3 c =
     let d = c .before .before .before .before .before in
-    let s = d .before .before .before .before .args in
+    let s = d .before .before .before .args in
     let v = cell d in
     let k = own _ _ _ (s .raw) (v .0) (c .before .before .before .resolution-of .ensures) (c .before .before .resolution-number .ensures) in
     ap refused (c .refusal3 .ensures)
@@ -79,7 +76,7 @@ returns-4 : tie.Need-returns-4
 unfolding more
 returns-4 c =
     let d = c .before .before .before .before .before in
-    let s = d .before .before .before .before .args in
+    let s = d .before .before .before .args in
     let v = cell d in
     let k = own _ _ _ (s .raw) (v .0) (c .before .before .before .resolution-of .ensures) (c .before .before .resolution-number .ensures) in
     (λ i. answered (v .0 i, c .resolution .ensures i))
@@ -89,7 +86,6 @@ pub finer-spec : {M : Type 1} → statement M
 finer-spec =
     tie.close
     (tie.spec
-    check-requires
     enum-known-a
     enum-told
     refusal-requires

@@ -11,9 +11,6 @@ use Rattle.index.specs.Turns.{pentagonTurned}
 use Rattle.step_entries.proofs.entries.pentagon_turn.Statement.{statement}
 use Rattle.step_entries.proofs.entries.pentagon_turn.Tie as tie
 
-check-requires : tie.Need-check-requires
-check-requires c κs = search needs
-
 enum-known-a : tie.Need-enum-known-a
 enum-known-a c = search needs
 
@@ -27,14 +24,14 @@ number-of-requires : tie.Need-number-of-requires
 number-of-requires c κs = search needs
 
 -- the arm of a cell
-cell : (c : tie.After-known-told) → let n = c .before .before .before .before .args .raw in (c .before .a .given .0 .0 .0 ≡ n) × Valid n
-cell c = let a = c .before .before .before .check in of-cell _ (a .result) _ (c .before .a .given .1) (a .ensures)
+cell : (c : tie.After-known-told) → let n = c .before .before .before .args .raw in (c .before .a .given .0 .0 .0 ≡ n) × Valid n
+cell c = let a = c .before .before .before in of-cell _ (a .args .a) _ (c .before .a .given .1) (a .pre)
 
 returns : tie.Need-returns
 returns c =
-    let s = c .before .before .before .before .args in
-    let a = c .before .before .before .check in
-    ap refused (c .refusal .ensures) ∙ sym (hit-cell (s .raw) [] _ _ (of-refusal (s .raw) (a .result) (c .before .before .match .keys2) (a .ensures)))
+    let s = c .before .before .before .args in
+    let a = c .before .before .before in
+    ap refused (c .refusal .ensures) ∙ sym (hit-cell (s .raw) [] _ _ (of-refusal (s .raw) (a .args .a) (c .before .before .match .keys2) (a .pre)))
 
 pentagon-rotate60-requires : tie.Need-pentagon-rotate60-requires
 pentagon-rotate60-requires c κs = let v = cell c in subst Valid (sym (v .0)) (v .1)
@@ -42,7 +39,7 @@ pentagon-rotate60-requires c κs = let v = cell c in subst Valid (sym (v .0)) (v
 returns-2 : tie.Need-returns-2
 returns-2 c =
     let d = c .before .before in
-    let s = d .before .before .before .before .args in
+    let s = d .before .before .before .args in
     let v = cell d in
     ap answered (c .number-of .ensures ∙ c .before .pentagon-rotate60 .ensures ∙ ap (pentagonTurned (s .ccw)) (v .0)) ∙ sym (past-cell (s .raw) [] _ (v .1) ∙ none-answered _)
 
@@ -50,7 +47,6 @@ pub pentagon-turn-spec : {M : Type 1} → statement M
 pentagon-turn-spec =
     tie.close
     (tie.spec
-    check-requires
     enum-known-a
     enum-told
     refusal-requires

@@ -1,4 +1,4 @@
--- `cell_entries::entries::ancestor` meets its contract. Assumes nothing.
+-- `cell_entries::entries::cut` meets its contract. Assumes nothing.
 use borrow.Author.Needs.{needs}
 use borrow.Author.Tests.{lt-ltb, le-ltb}
 use mathlib.Core.Path.{_≡_, sym, ap, ap₂, _∙_, subst}
@@ -11,11 +11,8 @@ use Rattle.index.specs.Ancestor.{ancestorOf}
 use Rattle.index.proofs.Answers.{of-cell, of-refusal, past-cell, hit-cell}
 use Rattle.index.proofs.Rules.{past, hit, none-answered}
 use Rattle.entry.specs.Rules.{resolutionRule}
-use Rattle.cell_entries.proofs.entries.ancestor.Statement.{statement}
-use Rattle.cell_entries.proofs.entries.ancestor.Tie as tie
-
-check-requires : tie.Need-check-requires
-check-requires c κs = search needs
+use Rattle.cell_entries.proofs.entries.cut.Statement.{statement}
+use Rattle.cell_entries.proofs.entries.cut.Tie as tie
 
 enum-known-a : tie.Need-enum-known-a
 enum-known-a c = search needs
@@ -48,8 +45,8 @@ more : ℕ → ℕ → List Rule
 more n r = resolutionRule r ∷ (9 when ltb (resOf n) r) ∷ []
 
 -- the arm of a cell
-cell : (c : tie.After-known-told) → let n = c .before .before .before .before .args .raw in (c .before .a .given .0 .0 .0 ≡ n) × Valid n
-cell c = let a = c .before .before .before .check in of-cell _ (a .result) _ (c .before .a .given .1) (a .ensures)
+cell : (c : tie.After-known-told) → let n = c .before .before .before .args .raw in (c .before .a .given .0 .0 .0 ≡ n) × Valid n
+cell c = let a = c .before .before .before in of-cell _ (a .args .a) _ (c .before .a .given .1) (a .pre)
 
 -- the own resolution, as it was read
 own : (n r k m : ℕ) → n ≡ m → r ≡ resOf n → k ≡ r → k ≡ resOf m
@@ -58,14 +55,14 @@ own n r k m e p q = q ∙ p ∙ ap resOf e
 returns : tie.Need-returns
 unfolding more
 returns c =
-    let s = c .before .before .before .before .args in
-    let a = c .before .before .before .check in
-    ap refused (c .refusal .ensures) ∙ sym (hit-cell (s .raw) (more (s .raw) (s .coarser)) _ _ (of-refusal (s .raw) (a .result) (c .before .before .match .keys2) (a .ensures)))
+    let s = c .before .before .before .args in
+    let a = c .before .before .before in
+    ap refused (c .refusal .ensures) ∙ sym (hit-cell (s .raw) (more (s .raw) (s .coarser)) _ _ (of-refusal (s .raw) (a .args .a) (c .before .before .match .keys2) (a .pre)))
 
 returns-2 : tie.Need-returns-2
 unfolding more
 returns-2 c =
-    let s = c .before .before .before .before .before .before .args in
+    let s = c .before .before .before .before .before .args in
     let v = cell (c .before .before) in
     ap refused (c .refusal2 .ensures) ∙ sym (past-cell (s .raw) (more (s .raw) (s .coarser)) _ (v .1) ∙ hit _ _ _ _ (lt-ltb _ _ (c .before .if1 .taken)))
 
@@ -73,24 +70,24 @@ returns-3 : tie.Need-returns-3
 unfolding more
 returns-3 c =
     let d = c .before .before .before .before .before in
-    let s = d .before .before .before .before .args in
+    let s = d .before .before .before .args in
     let v = cell d in
     let k = own _ _ _ (s .raw) (v .0) (c .before .before .before .resolution-of .ensures) (c .before .before .resolution-number .ensures) in
     ap refused (c .refusal3 .ensures)
     ∙ sym (past-cell (s .raw) (more (s .raw) (s .coarser)) _ (v .1) ∙ past _ _ _ _ (le-ltb _ _ (c .before .before .before .before .if1 .left)) ∙ hit _ _ _ _ (lt-ltb _ _ (subst (λ (x : ℕ). x < s .coarser) k (c .before .if2 .taken))))
 
 -- the wanted resolution is no finer than the cell's
-coarse : (c : tie.After-resolution) → let s = c .before .before .before .before .before .before .before .before .before .args in s .coarser ≤ resOf (s .raw)
+coarse : (c : tie.After-resolution) → let s = c .before .before .before .before .before .before .before .before .args in s .coarser ≤ resOf (s .raw)
 coarse c =
     let d = c .before .before .before .before .before in
-    let s = d .before .before .before .before .args in
+    let s = d .before .before .before .args in
     let k = own _ _ _ (s .raw) (cell d .0) (c .before .before .before .resolution-of .ensures) (c .before .before .resolution-number .ensures) in
     subst (λ (x : ℕ). s .coarser ≤ x) k (c .before .if2 .left)
 
 ancestor-requires : tie.Need-ancestor-requires
 ancestor-requires c κs =
     let d = c .before .before .before .before .before in
-    let s = d .before .before .before .before .args in
+    let s = d .before .before .before .args in
     let v = cell d in
     subst (λ (n : ℕ). Valid n × (c .resolution .result .0 ≤ resOf n)) (sym (v .0))
     (v .1, subst (λ (r : ℕ). r ≤ resOf (s .raw)) (sym (c .resolution .ensures)) (coarse c))
@@ -100,16 +97,15 @@ unfolding more
 returns-4 c =
     let r = c .before .before in
     let d = r .before .before .before .before .before in
-    let s = d .before .before .before .before .args in
+    let s = d .before .before .before .args in
     let v = cell d in
     ap answered (c .number-of .ensures ∙ c .before .ancestor .ensures ∙ ap₂ ancestorOf (v .0) (r .resolution .ensures))
     ∙ sym (past-cell (s .raw) (more (s .raw) (s .coarser)) _ (v .1) ∙ past _ _ _ _ (le-ltb _ _ (r .before .before .before .before .if1 .left)) ∙ past _ _ _ _ (le-ltb _ _ (coarse r)) ∙ none-answered _)
 
-pub ancestor-spec : {M : Type 1} → statement M
-ancestor-spec =
+pub cut-spec : {M : Type 1} → statement M
+cut-spec =
     tie.close
     (tie.spec
-    check-requires
     enum-known-a
     enum-told
     refusal-requires
