@@ -17,7 +17,7 @@ use Rattle.plane.proofs.Every.{at}
 use Rattle.index.specs.Layout.{digit, baseOf, resOf, isPentagonal, firstOf, Valid}
 use Rattle.index.specs.View.{used, pack, first, Fit}
 use Rattle.index.specs.Refusals.{Outcome, answered, refused}
-use Rattle.index.proofs.Turning.{length-turned}
+use Rattle.turns.proofs.Turning.{length-turned}
 use Rattle.index.proofs.View.{fit, first-used, pack-valid, pack-base, pack-res}
 use Rattle.walks.specs.Tables.{newDigit, adjustment}
 use Rattle.walks.specs.Walks.{walked, leftOver, carryOf}

@@ -10,7 +10,7 @@ use lib.ListN.{length}
 use Rattle.plane.specs.Strings.{Digits, odd}
 use Rattle.plane.proofs.Every.{every}
 use Rattle.index.specs.View.{first}
-use Rattle.index.proofs.Turning.{first-below}
+use Rattle.turns.proofs.Turning.{first-below}
 use Rattle.walks.specs.Tables.{newDigit, adjustment}
 use Rattle.walks.specs.Walks.{walked, leftOver}
 use Rattle.walks.proofs.Tables.{at-pair, adjusted-below}

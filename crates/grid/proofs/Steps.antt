@@ -17,7 +17,7 @@ use Rattle.index.proofs.Runs.{length-used}
 use Rattle.index.proofs.View.{fit, first-used}
 use Rattle.index.proofs.Redrawn.{redrawn-cell, redrawn-twice}
 use Rattle.index.proofs.Loose.{loose-used, loose-rest, loose-res}
-use Rattle.index.proofs.Turning.{length-turned, digits-turned, first-turned}
+use Rattle.turns.proofs.Turning.{length-turned, digits-turned, first-turned}
 use Rattle.walks.specs.Walks.{walked, walkedOf, carryOf}
 use Rattle.grid.specs.Steps.{inside, leaves, outOfDeleted, staysIn, stepOf}
 use Rattle.walks.proofs.Walks.{length-walked, digits-walked, walk-moved}

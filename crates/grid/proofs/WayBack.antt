@@ -18,7 +18,7 @@ use Rattle.plane.proofs.Pairs.{_⊕_, down-ij, ij-plus, ij-down7, ij-same, same
 use Rattle.index.specs.Layout.{baseOf, isPentagonal, Valid}
 use Rattle.index.specs.View.{used, pack, first, Fit}
 use Rattle.index.specs.Refusals.{answered}
-use Rattle.index.proofs.Turning.{length-turned, first-turned, turned-undone}
+use Rattle.turns.proofs.Turning.{length-turned, first-turned, turned-undone}
 use Rattle.index.proofs.View.{fit, packed, pack-base, pack-res, pack-used}
 use Rattle.walks.specs.Tables.{newDigit, adjustment}
 use Rattle.walks.specs.Walks.{walked, leftOver, carryOf}

@@ -41,9 +41,9 @@ pub fn step(c: Cell, d: Direction) -> Stepped
         return Stepped::DeletedWay;
     }
     if first == 3 {
-        let ccw = inside::cell(inside::turn_digits(n, true, 1));
+        let ccw = inside::cell(turns::turn_digits(n, true, 1));
         return Stepped::Inside(ccw, 1);
     }
-    let cw = inside::cell(inside::turn_digits(n, false, 1));
+    let cw = inside::cell(turns::turn_digits(n, false, 1));
     Stepped::Inside(cw, 5)
 }

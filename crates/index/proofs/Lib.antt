@@ -10,9 +10,7 @@ pub mod View
 pub mod Flags
 pub mod Leading
 pub mod Zeros
-pub mod Wordwise
 pub mod Cut
 pub mod Write
 pub mod Redrawn
 pub mod Loose
-pub mod Turning

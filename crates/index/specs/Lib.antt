@@ -4,5 +4,4 @@ pub mod View
 pub mod Check
 pub mod Ancestor
 pub mod Written
-pub mod Turns
 pub mod Words

@@ -1,15 +1,18 @@
-// Fields of any 64 bits.
+// Fields of any 64 bits, and the writing of a digit.
 ghost use mathlib.Core.Path.{_≡_};
 ghost use mathlib.Core.Bool.{cond};
 ghost use Prim.Native.Nat.{_≤_};
 ghost use Rattle.index.specs.Layout.{topBit, reservedOf, resOf, baseOf, digit, firstOf};
+ghost use Rattle.index.specs.Written.{Written};
+use crate::Digit;
 use crate::Resolution;
+use crate::inside::place;
 
 // The 45 bits of the digits, and one more.
-pub(crate) const DIGITS_END: u64 = 0x2000_0000_0000;
+pub const DIGITS_END: u64 = 0x2000_0000_0000;
 
 // One in the place of each digit.
-pub(crate) const ONES: u64 = 0o111111111111111;
+pub const ONES: u64 = 0o111111111111111;
 
 // Seven in the place of each digit.
 pub(crate) const SEVENS: u64 = 0o777777777777777;
@@ -18,7 +21,7 @@ pub(crate) const SEVENS: u64 = 0o777777777777777;
 const PREFIX_LENGTH: u64 = 19;
 
 // The one or the other, by a conditional move where an `if` in the caller would be a branch.
-pub(crate) fn sel(t: bool, a: u64, b: u64) -> u64
+pub fn sel(t: bool, a: u64, b: u64) -> u64
     ensures { λ r. ⌜ r ≡ cond t a b ⌝ }
 {
     if t { a } else { b }
@@ -71,4 +74,15 @@ pub(crate) fn first_axe(n: u64) -> u64
     } else {
         get_direction(n, Resolution(at))
     }
+}
+
+// The number with d as its digit of resolution r.
+pub fn set_direction(n: u64, r: Resolution, d: Digit) -> u64
+    requires { ⌜ (1 ≤ r .0) × (r .0 ≤ 15) × (d .0 ≤ 6) ⌝ }
+    ensures { λ y. ⌜ Written n (r .0) (d .0) y ⌝ }
+{
+    let new = d.0;
+    let u = place(r);
+    let old = get_direction(n, r);
+    n - old * u + new * u
 }

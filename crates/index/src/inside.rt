@@ -9,17 +9,16 @@ use crate::Cell;
 use crate::Digit;
 use crate::Refusal;
 use crate::Resolution;
-use crate::bits::DIGITS_END;
+pub use crate::bits::DIGITS_END;
+pub use crate::bits::ONES;
 use crate::bits::SEVENS;
 use crate::bits::first_axe;
 use crate::bits::get_base_cell;
 use crate::bits::get_direction;
 use crate::bits::get_resolution;
+pub use crate::bits::sel;
+pub use crate::bits::set_direction;
 pub use crate::parent::ancestor;
-pub use crate::turn::pentagon_rotate60;
-pub use crate::turn::rotate60;
-pub use crate::turn::set_direction;
-pub use crate::turn::turn_digits;
 
 pub fn cell(n: u64) -> Cell
     requires { ⌜ Valid n ⌝ }

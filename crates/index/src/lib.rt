@@ -8,7 +8,6 @@ mod bits;
 pub mod inside;
 mod parent;
 mod raw;
-mod turn;
 
 pub use raw::check;
 pub use raw::check_flat;

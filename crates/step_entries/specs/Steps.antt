@@ -6,7 +6,7 @@ use Prim.Native.Nat.{ℕ}
 use lib.Dec.{eqb, ltb}
 use Rattle.index.specs.Refusals.{Rule, _when_, Outcome, answered, refused, judged}
 use Rattle.index.specs.Check.{cellRules}
-use Rattle.index.specs.Turns.{turnedBy, pentagonTurned}
+use Rattle.turns.specs.Turns.{turnedBy, pentagonTurned}
 use Rattle.plane.specs.declared.ijk.IJK.{IJK}
 use Rattle.centres.specs.Centres as centres
 use Rattle.walks.specs.Walks.{walkedOf, carryOf}

@@ -32,7 +32,7 @@ fn turn(raw: u64, a: index::Checked, count: u32, ccw: bool) -> Number
     if 5 < count {
         return Number::Refused(refusal(14));
     }
-    Number::Is(inside::rotate60(cell, ccw, count as u8))
+    Number::Is(turns::rotate60(cell, ccw, count as u8))
 }
 
 pub fn turn_ccw(raw: u64, count: u32) -> Number
@@ -54,7 +54,7 @@ fn pentagon_turn(raw: u64, a: index::Checked, ccw: bool) -> Number
     let index::Checked::Valid(cell) = a else {
         return Number::Refused(a.refusal());
     };
-    Number::Is(number_of(inside::pentagon_rotate60(cell, ccw)))
+    Number::Is(turns::pentagon_rotate60(cell, ccw))
 }
 
 pub fn pentagon_turn_ccw(raw: u64) -> Number

@@ -7,7 +7,7 @@ use Rattle.index.specs.Layout.{Valid}
 use Rattle.index.specs.Refusals.{answered, refused}
 use Rattle.index.proofs.Answers.{of-cell, of-refusal, past-cell, hit-cell}
 use Rattle.index.proofs.Rules.{past, hit, none-answered}
-use Rattle.index.specs.Turns.{pentagonTurned}
+use Rattle.turns.specs.Turns.{pentagonTurned}
 use Rattle.step_entries.proofs.entries.pentagon_turn.Statement.{statement}
 use Rattle.step_entries.proofs.entries.pentagon_turn.Tie as tie
 
@@ -19,9 +19,6 @@ enum-told c = search needs
 
 refusal-requires : tie.Need-refusal-requires
 refusal-requires c κs = search needs
-
-number-of-requires : tie.Need-number-of-requires
-number-of-requires c κs = search needs
 
 -- the arm of a cell
 cell : (c : tie.After-known-told) → let n = c .before .before .before .args .raw in (c .before .a .given .0 .0 .0 ≡ n) × Valid n
@@ -38,10 +35,10 @@ pentagon-rotate60-requires c κs = let v = cell c in subst Valid (sym (v .0)) (v
 
 returns-2 : tie.Need-returns-2
 returns-2 c =
-    let d = c .before .before in
+    let d = c .before in
     let s = d .before .before .before .args in
     let v = cell d in
-    ap answered (c .number-of .ensures ∙ c .before .pentagon-rotate60 .ensures ∙ ap (pentagonTurned (s .ccw)) (v .0)) ∙ sym (past-cell (s .raw) [] _ (v .1) ∙ none-answered _)
+    ap answered (c .pentagon-rotate60 .ensures ∙ ap (pentagonTurned (s .ccw)) (v .0)) ∙ sym (past-cell (s .raw) [] _ (v .1) ∙ none-answered _)
 
 pub pentagon-turn-spec : {M : Type 1} → statement M
 pentagon-turn-spec =
@@ -52,5 +49,4 @@ pentagon-turn-spec =
     refusal-requires
     returns
     pentagon-rotate60-requires
-    number-of-requires
     returns-2)

@@ -8,7 +8,7 @@ use Rattle.index.specs.Layout.{Valid}
 use Rattle.index.specs.Refusals.{answered, refused}
 use Rattle.index.proofs.Answers.{of-cell, of-refusal, past-cell, hit-cell}
 use Rattle.index.proofs.Rules.{past, hit, none-answered}
-use Rattle.index.specs.Turns.{turnedBy}
+use Rattle.turns.specs.Turns.{turnedBy}
 use Rattle.entry.specs.Rules.{countRule}
 use Rattle.step_entries.proofs.entries.turn.Statement.{statement}
 use Rattle.step_entries.proofs.entries.turn.Tie as tie

@@ -1,9 +1,9 @@
--- `index::turn::flips` meets its contract. Assumes nothing.
+-- `turns::turn::flips` meets its contract. Assumes nothing.
 use native.Mathlib.Omega.{arith}
 use lib.Bits.{and-le-r}
-use Rattle.index.proofs.Wordwise.{differ, flipped}
-use Rattle.index.proofs.turn.flips.Statement.{statement}
-use Rattle.index.proofs.turn.flips.Tie as tie
+use Rattle.turns.proofs.Wordwise.{differ, flipped}
+use Rattle.turns.proofs.turn.flips.Statement.{statement}
+use Rattle.turns.proofs.turn.flips.Tie as tie
 
 mul-result : tie.Need-mul-result
 mul-result c = omega (arith, and-le-r (differ (c .args .x)) 5026338869833)

@@ -11,12 +11,13 @@ use lib.Pow.{pow-pos}
 use lib.Dec.{T, eqb, ltb, ltb→lt}
 use Rattle.plane.specs.Directions.{turns}
 use Rattle.plane.proofs.Every.{every, at, at-eq}
 use Rattle.index.specs.Layout.{digit, resOf}
 use Rattle.index.specs.View.{used}
 use Rattle.index.specs.Written.{WithDigits}
-use Rattle.index.specs.Words.{Each, down, up, flip}
+use Rattle.index.specs.Words.{Each}
+use Rattle.turns.specs.Moves.{down, up, flip}
 use Rattle.index.proofs.First.{digit-low}
 use Rattle.index.proofs.Digitwise.{and8, or8, xor8, shr-swap, mask-at, window}
 
 -- a product whose low part does not reach the place: the place sees its own part only
 over : (z c p : ℕ) → 1 ≤ p → z % p * c < p → z * c / p ≡ z / p * c

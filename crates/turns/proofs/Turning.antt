@@ -14,12 +14,12 @@ use Rattle.plane.specs.Directions.{turn, turns}
 use Rattle.plane.specs.Strings.{Digits}
 use Rattle.plane.proofs.Every.{every, at}
 use Rattle.plane.proofs.Turns.{turns-below, turn-undone, six-turns}
 use Rattle.index.specs.Layout.{resOf, baseOf, isPentagonal, Valid}
 use Rattle.index.specs.View.{used, pack, first, Fit}
-use Rattle.index.specs.Turns.{turnedBy, pentagonCount, pentagonTurned}
+use Rattle.turns.specs.Turns.{turnedBy, pentagonCount, pentagonTurned}
 use Rattle.index.proofs.Runs.{length-used}
 use Rattle.index.proofs.View.{packed, fit, pack-valid, pack-res, pack-base}
 use Rattle.index.proofs.Loose.{loose-base, loose-res, loose-used}
 
 -- strings
 pub length-turned : (o : Bool) (k : ℕ) (ds : List ℕ) → length (map (turns o k) ds) ≡ length ds

@@ -1,8 +1,8 @@
--- `index::turn::turn_word` meets its contract. Assumes nothing.
+-- `turns::turn::turn_word` meets its contract. Assumes nothing.
 use borrow.Author.Needs.{needs}
-use Rattle.index.proofs.Wordwise.{word-turned}
-use Rattle.index.proofs.turn.turn_word.Statement.{statement}
-use Rattle.index.proofs.turn.turn_word.Tie as tie
+use Rattle.turns.proofs.Wordwise.{word-turned}
+use Rattle.turns.proofs.turn.turn_word.Statement.{statement}
+use Rattle.turns.proofs.turn.turn_word.Tie as tie
 
 bits-up-requires : tie.Need-bits-up-requires
 bits-up-requires c κs = search needs

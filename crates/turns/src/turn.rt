@@ -1,38 +1,25 @@
-// Turns of cells (index/bits.rs), and the writing of digits.
+// Turns of cells (index/bits.rs).
 ghost use mathlib.Core.Path.{_≡_};
 ghost use mathlib.Core.Bool.{true};
 ghost use mathlib.Core.List.{map};
 ghost use Prim.Native.Nat.{ℕ, _^_, _≤_, _<_};
 ghost use Rattle.plane.specs.Directions.{turns};
 ghost use Rattle.plane.specs.Strings.{Digits};
 ghost use Rattle.index.specs.Layout.{Valid, resOf, digit};
 ghost use Rattle.index.specs.View.{used};
-ghost use Rattle.index.specs.Written.{Written, WithDigits};
-ghost use Rattle.index.specs.Turns.{turnedBy, pentagonTurned};
-ghost use Rattle.index.specs.Words.{Each, down, up, flip};
-use crate::Cell;
-use crate::Digit;
-use crate::Resolution;
-use crate::bits::DIGITS_END;
-use crate::bits::ONES;
-use crate::bits::first_axe;
-use crate::bits::get_direction;
-use crate::bits::sel;
-use crate::inside::place;
+ghost use Rattle.index.specs.Written.{WithDigits};
+ghost use Rattle.index.specs.Words.{Each};
+ghost use Rattle.turns.specs.Turns.{turnedBy, pentagonTurned};
+ghost use Rattle.turns.specs.Moves.{down, up, flip};
+use index::Cell;
+use index::inside::DIGITS_END;
+use index::inside::ONES;
+use index::inside::first_direction;
+use index::inside::number_of;
+use index::inside::sel;
 
 // The two low bits of each digit.
 const PAIRS: u64 = 0o333333333333333;
-
-// The number with d as its digit of resolution r.
-pub fn set_direction(n: u64, r: Resolution, d: Digit) -> u64
-    requires { ⌜ (1 ≤ r .0) × (r .0 ≤ 15) × (d .0 ≤ 6) ⌝ }
-    ensures { λ y. ⌜ Written n (r .0) (d .0) y ⌝ }
-{
-    let new = d.0;
-    let u = place(r);
-    let old = get_direction(n, r);
-    n - old * u + new * u
-}
 
 // Each digit's bits moved round by one place, down.
 fn bits_down(x: u64) -> u64
@@ -81,15 +68,15 @@ pub fn rotate60(c: Cell, ccw: bool, count: u8) -> u64
     requires { ⌜ Valid (c .0) × (count ≤ 5) ⌝ }
     ensures { λ y. ⌜ y ≡ turnedBy ccw count (c .0) ⌝ }
 {
-    turn_digits(c.0, ccw, count)
+    turn_digits(number_of(c), ccw, count)
 }
 
 // The pentagon turn: twice where one turn takes the first digit that is not 0 to 1.
-pub fn pentagon_rotate60(c: Cell, ccw: bool) -> Cell
+pub fn pentagon_rotate60(c: Cell, ccw: bool) -> u64
     requires { ⌜ Valid (c .0) ⌝ }
-    ensures { λ y. ⌜ y .0 ≡ pentagonTurned ccw (c .0) ⌝ }
+    ensures { λ y. ⌜ y ≡ pentagonTurned ccw (c .0) ⌝ }
 {
     let before_one = sel(ccw, 3, 5);
-    let count = sel(first_axe(c.0) == before_one, 2, 1);
-    Cell(rotate60(c, ccw, count as u8))
+    let count = sel(first_direction(number_of(c)) == before_one, 2, 1);
+    rotate60(c, ccw, count as u8)
 }

@@ -1,4 +1,4 @@
--- `index::turn::set_direction` meets its contract, by the laws of `Write`. Assumes nothing.
+-- `index::bits::set_direction` meets its contract, by the laws of `Write`. Assumes nothing.
 use borrow.Author.Needs.{needs}
 use mathlib.Core.Path.{_≡_, subst}
 use Prim.Native.Nat.{ℕ, _+_, _-_, _*_, _^_, _≤_, _<_}
@@ -7,8 +7,8 @@ use native.Mathlib.Omega.{arith}
 use Rattle.index.specs.Layout.{digit}
 use Rattle.index.specs.Written.{Written}
 use Rattle.index.proofs.Write.{setDigit, set-written, set-room, set-fits}
-use Rattle.index.proofs.turn.set_direction.Statement.{statement}
-use Rattle.index.proofs.turn.set_direction.Tie as tie
+use Rattle.index.proofs.bits.set_direction.Statement.{statement}
+use Rattle.index.proofs.bits.set_direction.Tie as tie
 
 -- in the words of the two calls
 record Parts (n r d u o : ℕ) : Type 0 where

@@ -1,9 +1,9 @@
--- `index::turn::bits_up` meets its contract. Assumes nothing.
+-- `turns::turn::bits_up` meets its contract. Assumes nothing.
 use native.Mathlib.Omega.{arith}
 use lib.Bits.{and-le-r}
-use Rattle.index.proofs.Wordwise.{moved-up}
-use Rattle.index.proofs.turn.bits_up.Statement.{statement}
-use Rattle.index.proofs.turn.bits_up.Tie as tie
+use Rattle.turns.proofs.Wordwise.{moved-up}
+use Rattle.turns.proofs.turn.bits_up.Statement.{statement}
+use Rattle.turns.proofs.turn.bits_up.Tie as tie
 
 mul-result : tie.Need-mul-result
 mul-result c = omega (arith, and-le-r (c .args .x) 15079016609499)

@@ -1,10 +1,10 @@
--- `index::turn::turn_digits` meets its contract. Assumes nothing.
+-- `turns::turn::turn_digits` meets its contract. Assumes nothing.
 use borrow.Author.Needs.{needs}
 use native.Mathlib.Omega.{arith}
 use Rattle.index.proofs.Digitwise.{chosen-le}
-use Rattle.index.proofs.Wordwise.{sense, placed}
-use Rattle.index.proofs.turn.turn_digits.Statement.{statement}
-use Rattle.index.proofs.turn.turn_digits.Tie as tie
+use Rattle.turns.proofs.Wordwise.{sense, placed}
+use Rattle.turns.proofs.turn.turn_digits.Statement.{statement}
+use Rattle.turns.proofs.turn.turn_digits.Tie as tie
 
 sub-result : tie.Need-sub-result
 sub-result c = search needs
