@@ -1,6 +1,6 @@
 -- A loop over a block that writes what an entry gives for each element into two lent blocks. Assumes nothing.
 use mathlib.Core.Path.{_≡_, refl, sym, ap, _∙_, subst}
-use mathlib.Core.Bool.{Bool, true, false, _||_, true≢false}
+use mathlib.Core.Bool.{Bool, true, false, _||_}
 use mathlib.Core.List.{List, [], _∷_, _++_, map}
 use Prim.Native.Nat.{ℕ, zero, suc, _+_, _≤_, _<_}
 use native.Mathlib.Nat.{le-of-suc-le-suc, not-suc-le-zero}
@@ -12,6 +12,7 @@ use lib.Seq.{take-length}
 use borrow.Author.Tests.{ltb-false, le-ltb}
 use Rattle.entry.specs.Answers.{valueOf}
 use Rattle.index.specs.Refusals.{Outcome, answered, refused, numberOf}
+use Rattle.index.proofs.Some.{both-off}
 use Rattle.index.proofs.Rules.{past, hit, none-answered}
 use Rattle.block_entries.specs.Blocks.{blockOf, filled, valuesAfter, refusalsAfter}
 
@@ -30,10 +31,6 @@ more f block lent now i v h l e w = rw (e, w, add-one) (part-more f block lent i
 
 whole : (f : ℕ → ℕ) (block lent : List ℕ) (i : ℕ) → i ≡ length block → part f block lent i ≡ map f block ++ drop (length block) lent
 whole f block lent i e = rw (e, take-length block)
-
-pub either : (a b : Bool) → a || b ≡ false → (a ≡ false) × (b ≡ false)
-either true b e = absurd (true≢false e)
-either false b e = (refl, e)
 
 pub neither : (n v r : ℕ) → n ≤ v → n ≤ r → (ltb v n || ltb r n) ≡ false
 neither n v r h k = rw (le-ltb v n h, le-ltb r n k)
@@ -60,7 +57,7 @@ module _ (entry : ℕ → Outcome ℕ) (block v₀ r₀ : List ℕ) where
 
   pub begin : (t : Bool) → t ≡ (ltb (length v₀) (length block) || ltb (length r₀) (length block)) → t ≡ false → Filled entry block v₀ r₀ v₀ r₀ 0
   begin t e h =
-      let z = either (ltb (length v₀) (length block)) (ltb (length r₀) (length block)) (sym e ∙ h) in
+      let z = both-off (ltb (length v₀) (length block)) (ltb (length r₀) (length block)) (sym e ∙ h) in
       record { low = omega arith; room = ltb-false _ _ (z .0); room-too = ltb-false _ _ (z .1); long = refl; long-too = refl; values = refl; refusals = refl }
 
   module _ (v r : List ℕ) (i : ℕ) (w : Filled entry block v₀ r₀ v r i) where

@@ -8,7 +8,7 @@ use types.Run
 use lib.Dec.{ltb}
 use borrow.Author.Tests.{ltb-false}
 use Rattle.index.specs.Layout.{Valid, resOf}
-use Rattle.index.specs.Refusals.{Rule, _when_, Outcome, answered, refused, numberOf, judged, Clear}
+use Rattle.index.specs.Refusals.{Rule, _when_, answered, refused, numberOf, judged, Clear}
 use Rattle.index.specs.Check.{cellRules}
 use Rattle.index.specs.declared.Cell.{Cell}
 use Rattle.index.specs.declared.Resolution.{Resolution}

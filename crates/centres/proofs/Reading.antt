@@ -6,7 +6,7 @@ use mathlib.Core.List.{List, [], _∷_}
 use Prim.Native.Nat.{ℕ, zero, suc, _+_, _-_, _*_, _/_, _%_, _^_, _<_, _≤_}
 use native.Mathlib.Nat.{div-one}
 use native.Mathlib.Omega.{arith}
-use lib.IntN.{ℤ, pos, natAbs, _+ℤ_, _-ℤ_}
+use lib.IntN.{ℤ, pos, natAbs}
 use lib.ListN.{length}
 use Rattle.plane.specs.Directions.{triple, vec, unit}
 use Rattle.plane.specs.Points.{normal, Same, pair, ij, plus, minus, down7, up7, direction, direction-of}
@@ -15,10 +15,10 @@ use Rattle.plane.specs.Strings.{Digits, odd, centre}
 use Rattle.plane.specs.declared.ijk.IJK.{IJK}
 use Rattle.plane.specs.declared.ijk.IJ.{IJ}
 use Rattle.plane.specs.declared.ijk.Way.the-variants.{Found}
-use Rattle.plane.proofs.Whole.{whole, diffs}
 use Rattle.plane.proofs.Bounds.{within-minus, within-broad}
 use Rattle.plane.proofs.Pairs.{_⊕_, _⊖_, ij-plus, ij-minus, ij-normal, ij-same, same-ij}
 use Rattle.plane.proofs.Normal.{normal-same}
+use Rattle.plane.proofs.Neighbours.{cancelled}
 use Rattle.plane.proofs.Units.{direction-found}
 use Rattle.plane.proofs.Ups.{up-ij, some-way}
 use Rattle.plane.proofs.Centres.{same-under, up-centre}
@@ -83,11 +83,8 @@ module _ (o : Bool) (q : IJK) (s : Sized q) where
   left-small = within-minus 500000000 500000000 q (normal (down7 o (up7 o q))) point-small under-small
 
 -- the digit that is left
-less-law : (a b : ℤ) → (a +ℤ b) -ℤ a ≡ b
-less-law a b = rw (← whole a, ← whole b) (simp diffs (omega arith))
-
 pub less-ij : (p u : IJ) → (p ⊕ u) ⊖ p ≡ u
-less-ij p u = ap₂ pair (less-law (p .i) (u .i)) (less-law (p .j) (u .j))
+less-ij p u = ap₂ pair (cancelled (p .i) (u .i)) (cancelled (p .j) (u .j))
 
 pub left-digit : (o : Bool) (q : IJK) → (d : ℕ) × (d < 7) × Same q (plus (down7 o (up7 o q)) (unit d)) × (direction-of (minus q (normal (down7 o (up7 o q)))) ≡ Found (direction d))
 left-digit o q =

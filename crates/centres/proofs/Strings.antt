@@ -7,7 +7,6 @@ use native.Mathlib.Omega.{arith}
 use Rattle.plane.specs.Points.{normal}
 use Rattle.plane.specs.Strings.{centre}
 use Rattle.plane.specs.declared.ijk.IJK.{IJK}
-use Rattle.plane.proofs.Normal.{normal-same}
 use Rattle.plane.proofs.Centres.{one-centre, centre-normal}
 use Rattle.index.specs.Layout.{baseOf, resOf, Valid}
 use Rattle.index.specs.View.{used, pack, Fit}

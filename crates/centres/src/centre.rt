@@ -2,7 +2,7 @@
 ghost use mathlib.Core.Path.{_≡_};
 ghost use Prim.Native.Nat.{_+_, _-_, _*_, _^_, _<_, _≤_};
 ghost use Rattle.plane.specs.Directions.{unit};
-ghost use Rattle.plane.specs.Points.{normal, Same, plus, down7, up7};
+ghost use Rattle.plane.specs.Points.{Same, plus, down7, up7};
 ghost use Rattle.plane.specs.Ranges.{Within, Broad};
 ghost use Rattle.index.specs.Layout.{Valid};
 ghost use Rattle.centres.specs.Centres.{centreOf, Reads, toldRead};

@@ -1,12 +1,11 @@
 -- How many digits come before the first that is not 0, by the leading zeros of their word. Assumes nothing.
-use mathlib.Core.Path.{_≡_, refl, sym, ap, _∙_}
+use mathlib.Core.Path.{_≡_, refl, _∙_}
 use mathlib.Core.Logic.{⊎-elim, _⊎_, inl, inr}
 use mathlib.Core.List.{_∷_}
 use Prim.Native.Nat.{ℕ, zero, suc, _+_, _-_, _*_, _/_, _%_, _^_, _≤_, _<_}
 use native.Mathlib.Nat.{eq-zero-or-pos, mod-lt, pow-suc, pow-le-pow-right}
 use native.Mathlib.Omega.{arith}
 use lib.Count.{leadingZeros, leading-le, leading-of-zero}
-use lib.Dec.{eqb}
 use Rattle.index.specs.Layout.{digit}
 use Rattle.index.specs.View.{used, octal, first}
 use Rattle.index.proofs.Runs.{run, octal-used, length-used}

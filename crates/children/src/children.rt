@@ -5,8 +5,6 @@ ghost use Prim.Native.Nat.{_+_, _-_, _*_, _≤_, _<_};
 ghost use lib.Dec.{eqb};
 ghost use lib.IntN.{pos, negsuc, predℤ, natAbs};
 ghost use Rattle.index.specs.Layout.{Valid, resOf};
-ghost use Rattle.descent.specs.Descendants.{countOf};
-ghost use Rattle.descent.specs.Positions.{childAt};
 ghost use Rattle.children.specs.Skips.{sameZ, Inner, Following};
 ghost use Rattle.children.specs.Cursors.{cursorAt, nextOf};
 use crate::legal::is_legal;

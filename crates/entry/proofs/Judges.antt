@@ -1,6 +1,6 @@
 -- What an entry learns of a direction and of a point that were judged. Assumes nothing.
 use mathlib.Core.Path.{_≡_, refl, sym, ap, _∙_, subst}
-use mathlib.Core.Bool.{Bool, true, false, not, cond, _||_, true≢false}
+use mathlib.Core.Bool.{Bool, true, false, not, cond, _||_}
 use mathlib.Core.List.{List, [], _∷_}
 use Prim.Native.Nat.{ℕ, _≤_, _<_}
 use native.Mathlib.Nat.{suc-ne-zero}
@@ -9,7 +9,8 @@ use denote.Enum.Declared
 use types.Run
 use lib.Dec.{T, eqb, ltb}
 use borrow.Author.Tests.{ltb-false, eqb-false}
-use Rattle.index.specs.Refusals.{Rule, Outcome, answered, refused, judged}
+use Rattle.index.specs.Refusals.{Rule, answered, refused, judged}
+use Rattle.index.proofs.Some.{both-off}
 use Rattle.index.proofs.Rules.{past, hit, none-answered}
 use Rattle.plane.specs.Ranges.{point-in-range, Within}
 use Rattle.plane.proofs.Bounds.{in-range-within}
@@ -49,13 +50,9 @@ module _ (d : ℕ) where
   pub to-onward : (a : Heading) (x : Direction) → a ≡ Heading.To x → a ≡ headed (eqb d 0 || ltb 6 d) → (x .0 ≡ d) × (1 ≤ d) × (d < 7) × (eqb d 0 || ltb 6 d ≡ false)
   to-onward a x p q =
       let r = passed (eqb d 0 || ltb 6 d) a x p q in
-      let z = either (eqb d 0) (ltb 6 d) (r .1) in
+      let z = both-off (eqb d 0) (ltb 6 d) (r .1) in
       let n = eqb-false d 0 (z .0) in
       (r .0, omega arith, omega (arith, ltb-false 6 d (z .1)), r .1)
-    where
-      either : (a b : Bool) → a || b ≡ false → (a ≡ false) × (b ≡ false)
-      either true b e = absurd (true≢false e)
-      either false b e = (refl, e)
 
 -- a point that was judged: it is the point handed in, and the rule lets it through
 module _ (t : IJK) where

@@ -4,7 +4,7 @@ use mathlib.Core.Path.{_≡_, refl, sym, ap, _∙_}
 use mathlib.Core.Bool.{Bool}
 use Prim.Native.Nat.{ℕ}
 use native.Mathlib.Nat.{suc-ne-zero}
-use Rattle.index.specs.Refusals.{Outcome, answered, refused}
+use Rattle.index.specs.Refusals.{Outcome, refused}
 use Rattle.index.specs.declared.Refusal.{Refusal}
 use Rattle.index.proofs.Rules.{never, refused-inj, answered-inj}
 use Rattle.plane.specs.declared.ijk.IJK.{IJK}

@@ -1,17 +1,17 @@
 -- What the entries' statements mean, in the words of the demands. A listing that is answered is exactly the valid descendants, ascending, and
 -- as long as the answer says. A walk that is answered moves the centre, and no other pair of numbers does. Assumes nothing.
 use mathlib.Core.Path.{_≡_, sym, ap, _∙_, subst}
-use mathlib.Core.Bool.{Bool, true, false, _||_, true≢false}
-use mathlib.Core.List.{List, [], _∷_, _++_}
+use mathlib.Core.List.{[], _∷_, _++_}
 use Prim.Native.Nat.{ℕ, _^_, _≤_, _<_}
 use native.Mathlib.Omega.{arith}
 use lib.Dec.{eqb, ltb}
 use lib.ListN.{length}
 use borrow.Author.Tests.{ltb-false}
-use Rattle.index.specs.Layout.{Valid, resOf}
-use Rattle.index.specs.Refusals.{Rule, _when_, answered, Clear}
+use Rattle.index.specs.Layout.{resOf}
+use Rattle.index.specs.Refusals.{_when_, answered}
 use Rattle.index.specs.Check.{cellRules}
 use Rattle.index.proofs.Rules.{answered-same, answered-clear, clear-parts}
+use Rattle.index.proofs.Some.{both-off}
 use Rattle.index.proofs.Validity.{clear-valid}
 use Rattle.descent.specs.Descendants.{countOf, Listing}
 use Rattle.descent.specs.Positions.{listing}
@@ -38,10 +38,6 @@ listed n t room k h e =
       fits = subst (λ (x : ℕ). x ≤ room) z (ltb-false room (countOf n t) (c .1 .0));
     }
 
-either-right : (a b : Bool) → a || b ≡ false → b ≡ false
-either-right true b e = absurd (true≢false e)
-either-right false b e = e
-
 pub record Walk-meant (n way y carry : ℕ) : Type 0 where
   pub moved : Moved n way y carry
   pub only : (z c : ℕ) → z < 2 ^ 64 → Moved n way z c → (z ≡ y) × (c ≡ carry)
@@ -50,7 +46,7 @@ pub walked : (n way y carry : ℕ) → n < 2 ^ 64 → walkOf n way ≡ answered 
 walked n way y carry h e =
     let c = clear-parts (cellRules n) (onwardRule way ∷ []) (answered-clear (onwardRules n way) (walkedOf n way, carryOf n way) (y, carry) e) in
     let v = clear-valid n (c .0) in
-    let w : way < 7 = omega (arith, ltb-false 6 way (either-right (eqb way 0) (ltb 6 way) (c .1 .0))) in
+    let w : way < 7 = omega (arith, ltb-false 6 way (both-off (eqb way 0) (ltb 6 way) (c .1 .0) .1)) in
     let z = answered-same (onwardRules n way) (walkedOf n way, carryOf n way) (y, carry) e in
     let p : walkedOf n way ≡ y = ap (λ (x : ℕ × ℕ). x .0) z in
     let q : carryOf n way ≡ carry = ap (λ (x : ℕ × ℕ). x .1) z in

@@ -11,9 +11,10 @@ use lib.IntN.{pos}
 use lib.Signed.{leZ}
 use borrow.Author.Tests.{ltb-false, le-ltb, eqb-false, not-true, not-false}
 use Rattle.index.specs.Layout.{Valid, resOf}
-use Rattle.index.specs.Refusals.{Rule, _when_, Outcome, answered, refused, judged, Clear, Met}
+use Rattle.index.specs.Refusals.{_when_, Outcome, answered, refused, judged, Met}
 use Rattle.index.specs.Check.{cellRules}
 use Rattle.index.proofs.Rules.{refused-inj, never, refused-met, answered-clear, clear-answered, clear-parts, cleared, hit, Others, later, joined}
+use Rattle.index.proofs.Some.{both-off}
 use Rattle.index.proofs.Validity.{clear-valid, valid-clear}
 use Rattle.plane.specs.Directions.{unit}
 use Rattle.plane.specs.Points.{normal, largest, value, direction, Same, direction-of}
@@ -114,14 +115,10 @@ given-17 n way = (λ e. there (judged (onwardRules n way) tt) refl e, back)
     there (answered u) q e =
         let c = clear-parts (cellRules n) (onwardRule way ∷ []) (answered-clear (onwardRules n way) tt u q) in
         let v = clear-valid n (c .0) in
-        let w = onward (eqb way 0) (ltb 6 way) (c .1 .0) in
+        let w = both-off (eqb way 0) (ltb 6 way) (c .1 .0) in
         let d = deleted-way n way v (low (eqb-false way 0 (w .0))) (omega (arith, ltb-false 6 way (w .1))) .0 e in
         (v, d .0, d .1)
       where
-        onward : (a b : Bool) → a || b ≡ false → (a ≡ false) × (b ≡ false)
-        onward true b x = absurd (true≢false x)
-        onward false b x = (refl, x)
-
         low : (way ≡ 0 → ⊥) → 1 ≤ way
         low x = omega arith
     there (refused k) q e = absurd (unlike (refused-met (onwardRules n way) tt 17 (q ∙ ap refused (refused-inj e))))

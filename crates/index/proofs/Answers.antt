@@ -6,7 +6,7 @@ use native.Mathlib.Nat.{suc-ne-zero}
 use denote.Enum.Declared
 use types.Run
 use Rattle.index.specs.Layout.{Valid as Valid·}
-use Rattle.index.specs.Refusals.{Rule, Outcome, answered, refused, numberOf, judged}
+use Rattle.index.specs.Refusals.{Rule, answered, refused, numberOf, judged}
 use Rattle.index.specs.Check.{cellRules, checkOf, told}
 use Rattle.index.proofs.Rules.{answered-same, early, cleared}
 use Rattle.index.proofs.Validity.{accepted-valid, valid-clear}

@@ -1,5 +1,5 @@
 -- What is packed of a base cell and digits 0 to 6 has them, also where refusal 7 names it. Assumes nothing.
-use mathlib.Core.Path.{_≡_, sym, ap, _∙_, subst}
+use mathlib.Core.Path.{_≡_, sym, ap, _∙_}
 use mathlib.Core.Bool.{true≢false}
 use mathlib.Core.List.{List}
 use Prim.Native.Nat.{ℕ, _+_, _-_, _*_, _/_, _%_, _^_, _≤_, _<_}
@@ -10,7 +10,7 @@ use Rattle.plane.specs.Strings.{Digits}
 use Rattle.index.specs.Layout.{digit, resOf, baseOf, isPentagonal, among}
 use Rattle.index.specs.View.{used, pack, Fit}
 use Rattle.index.proofs.First.{digit-low}
-use Rattle.index.proofs.Sum.{sum, sum-base, sum-res, sum-fits}
+use Rattle.index.proofs.Sum.{sum, sum-base, sum-res}
 use Rattle.index.proofs.View.{pack-used, pack-base, pack-res, pack-fits, pack-valid}
 use Rattle.index.proofs.Redrawn.{used-same}
 
@@ -72,6 +72,3 @@ module _ (b : ℕ) (ds : List ℕ) (hb : b ≤ 127) (short : length ds ≤ 15) (
 
   pub loose-base : baseOf (pack b ds) ≡ b
   loose-base = ap baseOf fields ∙ sum-base (length ds) b (p % 2 ^ 45) short hb l-lt
-
-  pub loose-fits : pack b ds < 2 ^ 60
-  loose-fits = subst (λ (x : ℕ). x < 2 ^ 60) (sym fields) (sum-fits (length ds) b (p % 2 ^ 45) short hb l-lt)

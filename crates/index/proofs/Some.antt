@@ -7,13 +7,9 @@ use native.Mathlib.Nat.{le-of-suc-le-suc, eq-or-lt-of-le, le-refl, le-step}
 use native.Mathlib.Omega.{arith}
 use Rattle.index.specs.Check.{some}
 
-or-left : (a b : Bool) → a || b ≡ false → a ≡ false
-or-left true b e = e
-or-left false b e = refl
-
-or-right : (a b : Bool) → a || b ≡ false → b ≡ false
-or-right true b e = absurd (true≢false e)
-or-right false b e = e
+pub both-off : (a b : Bool) → a || b ≡ false → (a ≡ false) × (b ≡ false)
+both-off true b e = absurd (true≢false e)
+both-off false b e = (refl, e)
 
 -- where it fails the test fails at each place, and the other way round
 pub some-off : (f : ℕ → Bool) (k r : ℕ) → some f k ≡ false → 1 ≤ r → r ≤ k → f r ≡ false
@@ -23,7 +19,7 @@ some-off f zero r e g h = absurd (g-le g h)
     g-le : 1 ≤ r → r ≤ 0 → ⊥
     g-le g h = omega arith
 some-off f (suc k) r e g h =
-    ⊎-elim (λ (q : r ≡ suc k). ap f q ∙ or-right (some f k) (f (suc k)) e) (λ l. some-off f k r (or-left (some f k) (f (suc k)) e) g (le-of-suc-le-suc l))
+    ⊎-elim (λ (q : r ≡ suc k). ap f q ∙ both-off (some f k) (f (suc k)) e .1) (λ l. some-off f k r (both-off (some f k) (f (suc k)) e .0) g (le-of-suc-le-suc l))
     (eq-or-lt-of-le h)
 
 pub off-some : (f : ℕ → Bool) (k : ℕ) → ((r : ℕ) → 1 ≤ r → r ≤ k → f r ≡ false) → some f k ≡ false

@@ -1,7 +1,7 @@
 -- The fields of 64 bits by place value: a number is the sum of its fields, and a sum of fields has them. One division at a time:
 -- omega stops at several of large numerals together. Assumes nothing.
-use mathlib.Core.Path.{_≡_, refl, sym, ap, _∙_}
-use Prim.Native.Nat.{ℕ, _+_, _-_, _*_, _/_, _%_, _^_, _≤_, _<_}
+use mathlib.Core.Path.{_≡_, sym, ap, _∙_}
+use Prim.Native.Nat.{ℕ, _+_, _*_, _/_, _%_, _^_, _≤_, _<_}
 use native.Mathlib.Nat.{div-add-mod', div-div-eq-div-mul}
 use native.Mathlib.Omega.{arith}
 use Rattle.index.specs.Layout.{topBit, modeOf, reservedOf, resOf, baseOf}

@@ -1,7 +1,7 @@
 -- Numbers that are handed on are read back from their bits.
 use mathlib.Core.Path.{_≡_, refl}
 use mathlib.Core.Bool.{Bool, true, false, cond}
-use Prim.Native.Nat.{ℕ, _^_, _<_}
+use Prim.Native.Nat.{_^_, _<_}
 use lib.IntN.{ℤ}
 use lib.Signed.{mag}
 use mir.Syntax.{w32}

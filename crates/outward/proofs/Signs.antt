@@ -4,23 +4,14 @@ use mathlib.Core.Path.{_≡_, refl}
 use mathlib.Core.Bool.{true, false, true≢false}
 use mathlib.Core.Option.{none, some}
 use native.Mathlib.Omega.{arith}
-use lib.Dec.{T}
 use lib.IntN.{ℤ, pos, negsuc, natAbs, _-ℤ_}
-use lib.Signed.{mag, ltZ, nonNeg}
+use lib.Signed.{mag, ltZ}
 use borrow.Author.Tests.{lt-ltb, le-ltb, ltb-true}
 use Rattle.outward.specs.CursorWords.{skipWord, skipIn}
-
-pub minus-below : (z : ℤ) → ltZ z (pos 0) ≡ true → negsuc 0 -ℤ z ≡ pos (mag z)
-minus-below (pos n) h = absurd (omega (arith, ltb-true n 0 h))
-minus-below (negsuc k) h = let e : suc k - 1 ≡ k = omega arith in rw (le-ltb (suc k) 1 (omega arith), e)
 
 pub word-below : (z : ℤ) → ltZ z (pos 0) ≡ true → 2 ^ 64 - 1 - mag z ≡ skipWord z
 word-below (pos n) h = absurd (omega (arith, ltb-true n 0 h))
 word-below (negsuc k) h = refl
-
-pub not-below : (z : ℤ) → ltZ z (pos 0) ≡ false → T (nonNeg z)
-not-below (pos n) h = tt
-not-below (negsuc k) h = absurd (true≢false h)
 
 pub size-fits : (z : ℤ) → mag z < 2 ^ 31 → natAbs z < 2 ^ 64
 size-fits (pos n) h = omega arith

@@ -1,14 +1,12 @@
 -- Document 01's entries on directions and points: what each answers for any numbers. A sense of turning is `true` for counter-clockwise.
 use mathlib.Core.Bool.{Bool, not}
-use mathlib.Core.List.{List, [], _∷_}
+use mathlib.Core.List.{[], _∷_}
 use Prim.Native.Nat.{ℕ}
-use lib.Dec.{ltb}
 use lib.IntN.{pos, natAbs}
 use lib.Signed.{leZ}
 use Rattle.index.specs.Refusals.{Rule, _when_, Outcome, judged}
 use Rattle.plane.specs.Directions.{triple, unit, turns}
 use Rattle.plane.specs.Points as points
-use Rattle.plane.specs.Ranges.{point-in-range}
 use Rattle.plane.specs.declared.ijk.IJK.{IJK}
 use Rattle.plane.specs.declared.ijk.IJ.{IJ}
 use Rattle.entry.specs.Rules.{wayRule, rangeRule, countRule}

@@ -1,10 +1,9 @@
 -- Document 01's entries on turns of cells, centres, the walk and the step: what each answers for any numbers.
 use mathlib.Core.Path.{_≡_}
-use mathlib.Core.Bool.{Bool, _||_}
+use mathlib.Core.Bool.{Bool}
 use mathlib.Core.List.{List, [], _∷_, _++_}
 use Prim.Native.Nat.{ℕ}
-use lib.Dec.{eqb, ltb}
-use Rattle.index.specs.Refusals.{Rule, _when_, Outcome, answered, refused, judged}
+use Rattle.index.specs.Refusals.{Rule, Outcome, answered, refused, judged}
 use Rattle.index.specs.Check.{cellRules}
 use Rattle.turns.specs.Turns.{turnedBy, pentagonTurned}
 use Rattle.plane.specs.declared.ijk.IJK.{IJK}

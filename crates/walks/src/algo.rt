@@ -3,7 +3,6 @@ ghost use mathlib.Core.Path.{_≡_};
 ghost use mathlib.Core.Bool.{cond};
 ghost use Prim.Native.Nat.{_<_};
 ghost use Rattle.index.specs.Layout.{Valid};
-ghost use Rattle.walks.specs.Tables as tables;
 ghost use Rattle.walks.specs.Walks.{walkedOf, carryOf};
 use index::Cell;
 use index::inside;

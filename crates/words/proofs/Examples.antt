@@ -1,6 +1,6 @@
 -- Words of design/requests.md's rules and their meanings, computed: that the definitions say what the page says.
 use mathlib.Core.Path.{_≡_, refl}
-use mathlib.Core.List.{List, [], _∷_}
+use mathlib.Core.List.{[], _∷_}
 use lib.IntN.{pos, negsuc}
 use Rattle.words.specs.Numeral.{digits, onward, hexadecimal, natural64, natural32, integer32}
 use Rattle.words.specs.Lines.{partsFrom, wordsOf}

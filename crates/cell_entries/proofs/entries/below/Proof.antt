@@ -8,7 +8,7 @@ use native.Mathlib.Nat.{suc-ne-zero}
 use denote.Enum.Declared
 use types.Run
 use Rattle.index.specs.Layout.{Valid}
-use Rattle.index.specs.Refusals.{Rule, _when_, answered, refused, judged}
+use Rattle.index.specs.Refusals.{Rule, _when_, refused, judged}
 use Rattle.index.specs.Check.{cellRules}
 use Rattle.index.proofs.Answers.{of-cell, of-refusal, past-cell, hit-cell}
 use Rattle.descent.specs.Positions.{under, positionOf, foundOf}

@@ -1,6 +1,6 @@
 -- `cell_entries::entries::check` meets its contract: it passes on what the check of `index` says. Assumes nothing.
 use borrow.Author.Needs.{needs}
-use mathlib.Core.Path.{_≡_, sym, ap, _∙_}
+use mathlib.Core.Path.{sym, ap, _∙_}
 use mathlib.Core.List.{[]}
 use Prim.Native.Nat.{ℕ}
 use Rattle.index.specs.Refusals.{refused}

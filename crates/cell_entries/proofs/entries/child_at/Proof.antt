@@ -1,9 +1,8 @@
 -- `cell_entries::entries::child_at` meets its contract. Assumes nothing.
 use borrow.Author.Needs.{needs}
-use mathlib.Core.Path.{_≡_, sym, ap, ap₂, _∙_, subst}
+use mathlib.Core.Path.{sym, ap, ap₂, _∙_, subst}
 use mathlib.Core.List.{[], _∷_}
 use Prim.Native.Nat.{ℕ, _≤_, _<_}
-use Rattle.index.specs.Layout.{Valid, resOf}
 use Rattle.index.specs.Refusals.{_when_, answered, refused}
 use Rattle.index.proofs.Rules.{past, hit, none-answered}
 use mathlib.Core.Bool.{not}

@@ -1,9 +1,7 @@
 -- `cell_entries::entries::count` meets its contract. Assumes nothing.
 use borrow.Author.Needs.{needs}
-use mathlib.Core.Path.{_≡_, sym, ap, ap₂, _∙_, subst}
-use mathlib.Core.List.{[], _∷_}
-use Prim.Native.Nat.{ℕ, _≤_}
-use Rattle.index.specs.Layout.{Valid, resOf}
+use mathlib.Core.Path.{sym, ap, ap₂, _∙_}
+use mathlib.Core.List.{[]}
 use Rattle.index.specs.Refusals.{answered}
 use Rattle.index.proofs.Rules.{none-answered}
 use Rattle.descent.specs.Descendants.{countOf}

@@ -1,9 +1,8 @@
 -- `cell_entries::entries::cursor` meets its contract. Assumes nothing.
 use borrow.Author.Needs.{needs}
-use mathlib.Core.Path.{_≡_, sym, ap, ap₂, _∙_, subst}
-use mathlib.Core.List.{[], _∷_}
-use Prim.Native.Nat.{ℕ, _≤_}
-use Rattle.index.specs.Layout.{Valid, resOf}
+use mathlib.Core.Path.{sym, ap, ap₂, _∙_}
+use mathlib.Core.List.{[]}
+use Prim.Native.Nat.{ℕ}
 use Rattle.index.specs.Refusals.{answered}
 use Rattle.index.proofs.Rules.{none-answered}
 use Rattle.children.specs.Cursors.{cursorAt}

@@ -1,10 +1,8 @@
 -- `cell_entries::entries::list` meets its contract. Assumes nothing.
 use borrow.Author.Needs.{needs}
-use mathlib.Core.Path.{_≡_, sym, _∙_}
+use mathlib.Core.Path.{sym}
 use mathlib.Core.List.{[], _∷_}
-use Prim.Native.Nat.{ℕ}
 use lib.ListN.{length}
-use Rattle.index.specs.Refusals.{refused}
 use Rattle.descent.specs.Descendants.{countOf}
 use Rattle.cell_entries.specs.Cells.{roomRule}
 use Rattle.cell_entries.proofs.Finers.{Ready, ready, asked, refuse-finer, past-finer}

@@ -2,17 +2,15 @@
 use borrow.Author.Needs.{needs}
 use borrow.Author.Tests.{lt-ltb, le-ltb}
 use mathlib.Core.Path.{_≡_, sym, ap, _∙_, subst}
-use mathlib.Core.List.{List, [], _∷_, _++_}
+use mathlib.Core.List.{List, [], _∷_}
 use Prim.Native.Nat.{ℕ, _+_, _≤_, _<_}
 use native.Mathlib.Omega.{arith}
 use lib.Dec.{ltb}
 use lib.ListN.{length}
 use Rattle.index.specs.Layout.{Valid, resOf}
-use Rattle.index.specs.Refusals.{Rule, _when_, refused, judged}
-use Rattle.index.specs.Check.{cellRules}
+use Rattle.index.specs.Refusals.{Rule, _when_, refused}
 use Rattle.index.proofs.Answers.{of-cell, of-refusal, past-cell, hit-cell}
 use Rattle.index.proofs.Rules.{past, hit}
-use Rattle.descent.specs.Descendants.{countOf}
 use Rattle.entry.specs.Rules.{resolutionRule}
 use Rattle.cell_entries.specs.Cells.{roomRule, roomOf, listShortOf}
 use Rattle.cell_entries.proofs.Rooms.{untouched, passed}

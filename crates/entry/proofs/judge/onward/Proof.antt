@@ -1,7 +1,7 @@
 -- `entry::judge::onward` meets its contract. Assumes nothing.
 use borrow.Author.Needs.{needs}
 use borrow.Author.Tests.{eq-eqb, ne-eqb}
-use mathlib.Core.Path.{_≡_, _∙_, sym, ap}
+use mathlib.Core.Path.{_≡_, _∙_}
 use mathlib.Core.Bool.{_||_}
 use Prim.Native.Nat.{ℕ}
 use lib.Dec.{eqb, ltb}

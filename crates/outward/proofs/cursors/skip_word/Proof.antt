@@ -5,7 +5,8 @@ use lib.Signed.{mag}
 use mir.Syntax.{w32}
 use mir.Val.{toZ, ofZ}
 use mir.Facts.{toZ-ofZ}
-use Rattle.outward.proofs.Signs.{minus-below, word-below, not-below, size-fits, word-above}
+use Rattle.plane.proofs.Signs.{minus-below, not-below}
+use Rattle.outward.proofs.Signs.{word-below, size-fits, word-above}
 use Rattle.outward.proofs.cursors.skip_word.Statement.{statement}
 use Rattle.outward.proofs.cursors.skip_word.Tie as tie
 

@@ -1,8 +1,6 @@
 -- `plane::direction::rotate60` meets its contract: each call is one more of the turns, or none where they are done. Assumes nothing.
 use mathlib.Core.Path.{refl}
-use Prim.Native.Nat.{ℕ}
 use borrow.Author.Needs.{needs}
-use native.Mathlib.Omega.{arith}
 use Rattle.plane.proofs.Turns.{Turned, unturned, turned-once-more, turned-below}
 use Rattle.plane.proofs.direction.rotate60.Statement.{statement}
 use Rattle.plane.proofs.direction.rotate60.Tie as tie

@@ -2,7 +2,6 @@
 use mathlib.Core.Path.{ap₂, _∙_}
 use native.Mathlib.Omega.{arith}
 use borrow.Author.Needs.{needs}
-use lib.IntN.{_-ℤ_}
 use mir.Facts.{toZ-ofZ}
 use Rattle.plane.proofs.Bounds.{fits}
 use Rattle.plane.proofs.Pairs.{triple-path}

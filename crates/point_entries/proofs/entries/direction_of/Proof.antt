@@ -17,7 +17,6 @@ use Rattle.plane.specs.declared.ijk.IJK.{IJK}
 use Rattle.plane.specs.declared.direction.Direction.{Direction}
 use Rattle.plane.specs.declared.ijk.Way.{Way}
 use Rattle.plane.proofs.ijk.Way as way-type
-use Rattle.entry.specs.Rules.{rangeRule}
 use Rattle.point_entries.specs.Points.{unitRule}
 use Rattle.entry.proofs.Judges.{within, outside, refuse-point, wider}
 use Rattle.point_entries.proofs.entries.direction_of.Statement.{statement}

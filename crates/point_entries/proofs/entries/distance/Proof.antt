@@ -2,7 +2,6 @@
 use borrow.Author.Needs.{needs}
 use mathlib.Core.Path.{_≡_, sym, ap, ap₂, _∙_, subst}
 use mathlib.Core.List.{[], _∷_}
-use Prim.Native.Nat.{ℕ, _<_, _^_}
 use native.Mathlib.Omega.{arith}
 use lib.Dec.{T}
 use lib.IntN.{ℤ, pos, negsuc, natAbs}
@@ -13,6 +12,7 @@ use mir.Facts.{toZ-ofZ}
 use Rattle.index.proofs.Rules.{past}
 use Rattle.plane.specs.Points.{distance}
 use Rattle.plane.proofs.Distances.{distance-least}
+use Rattle.plane.proofs.Signs.{size-fits}
 use Rattle.plane.proofs.Bounds.{rd}
 use Rattle.entry.specs.Rules.{rangeRule}
 use Rattle.entry.proofs.Judges.{within, outside, refuse-point, answer-point, wider}
@@ -69,15 +69,11 @@ distance-requires c κs =
 
 -- a number that is at least 0 is cast to its size
 natural : (z r : ℤ) → SFits w32 r → r ≡ z → T (leZ (pos 0) z) → T (nonNeg (rd r)) × Fits w64 (natAbs (rd r))
-natural z r f e h = subst (λ (y : ℤ). T (nonNeg y) × Fits w64 (natAbs y)) (sym (toZ-ofZ f ∙ e)) (least z h, record { fits = small z (subst (SFits w32) e f) })
+natural z r f e h = subst (λ (y : ℤ). T (nonNeg y) × Fits w64 (natAbs y)) (sym (toZ-ofZ f ∙ e)) (least z h, record { fits = size-fits z (subst (SFits w32) e f) })
   where
     least : (y : ℤ) → T (leZ (pos 0) y) → T (nonNeg y)
     least (pos n) t = tt
     least (negsuc n) t = absurd t
-
-    small : (y : ℤ) → SFits w32 y → natAbs y < 2 ^ 64
-    small (pos n) g = omega (arith, g .sfits)
-    small (negsuc n) g = omega (arith, g .sfits)
 
 cast-t10 : tie.Need-cast-t10
 cast-t10 c = natural _ _ (record { sfits = c .distance .ok }) (c .distance .ensures) (distance-least (c .before .before .before .before .before .before .a .given .0 .0) (c .before .before .b .given .0 .0))

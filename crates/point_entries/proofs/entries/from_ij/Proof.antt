@@ -4,7 +4,7 @@ use mathlib.Core.Path.{_≡_, sym, ap, _∙_, subst}
 use mathlib.Core.List.{[]}
 use Prim.Native.Nat.{_≤_}
 use native.Mathlib.Omega.{arith}
-use lib.IntN.{ℤ, pos, natAbs}
+use lib.IntN.{pos, natAbs}
 use mir.Syntax.{w32}
 use mir.Val.{SFits}
 use mir.Facts.{toZ-ofZ}
@@ -13,7 +13,6 @@ use Rattle.plane.specs.Points.{pair, of-ij}
 use Rattle.plane.specs.declared.ijk.IJ.{IJ}
 use Rattle.plane.specs.declared.ijk.IJK.{IJK}
 use Rattle.plane.proofs.Bounds.{rd}
-use Rattle.entry.specs.declared.judge.Place.{Place}
 use Rattle.entry.proofs.Judges.{placeOf, within, outside, refuse-point, answer-point}
 use Rattle.point_entries.proofs.entries.from_ij.Statement.{statement}
 use Rattle.point_entries.proofs.entries.from_ij.Tie as tie

@@ -1,5 +1,5 @@
 use borrow.Author.Needs.{needs}
-use mathlib.Core.Path.{ap, subst}
+use mathlib.Core.Path.{subst}
 use Rattle.plane.specs.declared.ijk.IJK.{IJK}
 use Rattle.entry.specs.Answers.{toldNumber}
 use Rattle.step_entries.specs.Steps.{ReadsBack}

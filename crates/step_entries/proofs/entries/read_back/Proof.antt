@@ -9,14 +9,14 @@ use native.Mathlib.Nat.{suc-ne-zero}
 use native.Mathlib.Omega.{arith}
 use denote.Enum.Declared
 use types.Run
-use Rattle.index.specs.Refusals.{Outcome, answered, refused, judged}
+use Rattle.index.specs.Refusals.{Outcome, answered, refused}
 use Rattle.index.proofs.Rules.{past, hit, none-answered}
 use Rattle.plane.specs.Ranges.{point-in-range, Within}
 use Rattle.plane.specs.declared.ijk.IJK.{IJK}
 use Rattle.centres.specs.Centres.{Reads, toldRead}
 use Rattle.centres.specs.declared.centre.Read.{Read}
 use Rattle.centres.proofs.centre.Read as read-type
-use Rattle.entry.specs.Rules.{resolutionRule, rangeRule}
+use Rattle.entry.specs.Rules.{rangeRule}
 use Rattle.step_entries.specs.Steps.{Under, ReadsBack}
 use Rattle.entry.proofs.Judges.{within, outside, wider}
 use Rattle.step_entries.proofs.entries.read_back.Statement.{statement}

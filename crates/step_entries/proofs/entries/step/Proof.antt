@@ -4,7 +4,7 @@ use mathlib.Core.Path.{_≡_, sym, ap, ap₂, _∙_, subst}
 use mathlib.Core.List.{[], _∷_}
 use Prim.Native.Nat.{ℕ, _≤_, _<_}
 use Rattle.index.specs.Layout.{Valid}
-use Rattle.index.specs.Refusals.{Outcome, answered, refused}
+use Rattle.index.specs.Refusals.{Outcome, refused}
 use Rattle.index.proofs.Answers.{of-cell, of-refusal, past-cell, hit-cell}
 use Rattle.index.proofs.Rules.{past, hit, none-answered}
 use mathlib.Core.Bool.{_||_, false}
@@ -12,7 +12,6 @@ use lib.Dec.{eqb, ltb}
 use Rattle.entry.specs.Rules.{onwardRule}
 use Rattle.step_entries.specs.Steps.{after}
 use Rattle.entry.proofs.Judges.{to-onward, nowhere}
-use Rattle.grid.specs.Steps.{Answer}
 use Rattle.grid.specs.Steps as steps
 use Rattle.step_entries.proofs.entries.step.Statement.{statement}
 use Rattle.step_entries.proofs.entries.step.Tie as tie

@@ -3,7 +3,6 @@ use borrow.Author.Needs.{needs}
 use borrow.Author.Tests.{lt-ltb, le-ltb}
 use mathlib.Core.Path.{_≡_, sym, ap, _∙_, subst}
 use mathlib.Core.List.{[], _∷_}
-use Prim.Native.Nat.{ℕ}
 use Rattle.index.specs.Layout.{Valid}
 use Rattle.index.specs.Refusals.{answered, refused}
 use Rattle.index.proofs.Answers.{of-cell, of-refusal, past-cell, hit-cell}
