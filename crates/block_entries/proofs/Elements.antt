@@ -10,9 +10,10 @@ use lib.ListN.{length, drop, getD}
 use borrow.Author.Tests.{lt-ltb, ltb-true, ltb-false}
 use Rattle.entry.specs.Answers.{valueOf}
 use Rattle.index.specs.Refusals.{_when_, Outcome, answered, refused, numberOf, Met}
+use Rattle.index.proofs.Some.{both-off}
 use Rattle.index.proofs.Rules.{hit, past, none-answered, refused-met, answered-clear, answered-same}
 use Rattle.block_entries.specs.Blocks.{blockOf, filled, valuesAfter, refusalsAfter}
-use Rattle.block_entries.proofs.Fills.{either, neither}
+use Rattle.block_entries.proofs.Fills.{neither}
 
 one-of : (a b : Bool) → a || b ≡ true → (a ≡ true) ⊎ (b ≡ true)
 one-of true b e = inl refl
@@ -69,7 +70,7 @@ module _ (block values refusals : List ℕ) where
   -- the number of elements is answered exactly where there is room in both, and no other number ever is
   pub room : (n : ℕ) → (blockOf block values refusals ≡ answered n) ↔ ((n ≡ length block) × Room)
   room n = (
-    λ e. let z = either _ _ (answered-clear ((10 when test) ∷ []) (length block) n e .0) in (sym (answered-same ((10 when test) ∷ []) (length block) n e), (ltb-false _ _ (z .0), ltb-false _ _ (z .1))),
+    λ e. let z = both-off _ _ (answered-clear ((10 when test) ∷ []) (length block) n e .0) in (sym (answered-same ((10 when test) ∷ []) (length block) n e), (ltb-false _ _ (z .0), ltb-false _ _ (z .1))),
     λ h. past 10 test [] (length block) (neither _ _ _ (h .1 .0) (h .1 .1)) ∙ none-answered _ ∙ ap answered (sym (h .0)),
   )
 

@@ -1,4 +1,5 @@
 -- `plane::ijk::minus` meets its contract. Assumes nothing.
+use lib.IntN.{_-ℤ_}
 use mathlib.Core.Path.{ap₂, _∙_}
 use native.Mathlib.Omega.{arith}
 use borrow.Author.Needs.{needs}
