@@ -1,7 +1,6 @@
 -- The ancestor of a cell: the cell is among its descendants, and it is the only such cell of its resolution. Assumes nothing.
 use mathlib.Core.Path.{_≡_, refl, sym, _∙_, subst}
 use mathlib.Core.Bool.{Bool, true, false, not, _&&_, false≢true}
-use mathlib.Core.List.{[], _∷_}
 use Prim.Native.Nat.{ℕ, _^_, _≤_, _<_}
 use native.Mathlib.Decide.{decLe}
 use native.Mathlib.Omega.{arith}
@@ -9,11 +8,10 @@ use lib.Dec.{eqb, leb}
 use borrow.Author.Tests.{leb-true, eqb-true, le-leb, eq-eqb}
 use Rattle.index.specs.Layout.{resOf, Valid}
 use Rattle.index.specs.Ancestor.{ancestorOf}
-use Rattle.index.specs.Refusals.{_when_, answered, refused, judged}
 use Rattle.index.proofs.View.{packed}
 use Rattle.index.proofs.Cut.{ancestor-valid, ancestor-res, ancestor-base, ancestor-fits, ancestor-used}
 use Rattle.descent.specs.Descendants.{Descendant, countOf}
-use Rattle.descent.specs.Positions.{childAt, positionOf, under, foundOf}
+use Rattle.descent.specs.Positions.{childAt, positionOf, under}
 use Rattle.descent.proofs.Strings.{used-digit, digit-used}
 use Rattle.descent.proofs.Exact.{sound, complete}
 
@@ -75,16 +73,3 @@ pub descendant-under : (n t y : ℕ) → n < 2 ^ 64 → Valid n → Descendant n
 descendant-under n t y h v d =
     let g : resOf n ≤ resOf y = rw (d .fine) (descendant-finer n t y v d) in
     rw (le-leb (resOf n) (resOf y) g, eq-eqb (ancestorOf y (resOf n)) n (sym (ancestor-only n y t h v d)))
-
--- a descendant is found at its position, and refusal 12 is given where y is no descendant
-pub found-position : (n y : ℕ) → n < 2 ^ 64 → Valid n → Descendant n (resOf y) y → foundOf n y ≡ answered (positionOf n y)
-unfolding judged
-found-position n y h v d = rw (descendant-under n (resOf y) y h v d)
-
-pub found-none : (n y : ℕ) → y < 2 ^ 64 → Valid y → (Descendant n (resOf y) y → ⊥) → foundOf n y ≡ refused 12
-unfolding judged
-found-none n y h v g = go (under n y) refl
-  where
-    go : (b : Bool) → under n y ≡ b → judged ((12 when not b) ∷ []) (positionOf n y) ≡ refused 12
-    go true e = absurd (g (under-descendant n y h v e))
-    go false e = refl

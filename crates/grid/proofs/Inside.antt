@@ -1,6 +1,6 @@
 -- What the step's answers mean: an answer inside is a cell of the same base cell and resolution; no origin but those of first digit 3 or 5, or the
 -- pentagon itself, reaches the deleted digits; refusal 17 is given exactly for a pentagon of resolution 1 or finer in direction 1; resolution 0 is
--- always left; a step with turn number 0 has a way back. Assumes nothing.
+-- always left. Assumes nothing.
 use mathlib.Core.Path.{_≡_, refl, sym, ap, _∙_, subst}
 use mathlib.Core.Bool.{Bool, true, false, true≢false}
 use mathlib.Core.Logic.{_⊎_, inl, inr, ⊎-elim, _↔_}

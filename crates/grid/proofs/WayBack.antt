@@ -195,7 +195,3 @@ module _ (n way : ℕ) (h : n < 2 ^ 64) (v : Valid n) (l : 1 ≤ way) (hw : way 
       go (cw z p g f s) =
           let w = within (stepOf n way) _ 5 m t s e in
           at-turn 5 (w .1) (subst (λ (x : ℕ). stepOf m x ≡ answered (inside n 1)) (sym (five (7 - way) (omega arith))) (back-cw m z p g f (w .0)))
-
-  -- with turn number 0
-  pub way-back-unturned : (m : ℕ) → stepOf n way ≡ answered (inside m 0) → stepOf m (7 - way) ≡ answered (inside n 0)
-  way-back-unturned m e = way-back m 0 e

@@ -1,4 +1,4 @@
--- What the contracts of functions inside the crate cite, no part of document 01: a word of fifteen digits that are changed all at once.
+-- What the contracts of functions inside this crate and turns cite, no part of document 01: a word of fifteen digits that are changed all at once.
 use mathlib.Core.Path.{_≡_}
 use mathlib.Core.Bool.{cond}
 use Prim.Native.Nat.{ℕ, zero, suc, _+_, _*_, _%_, _^_, _≤_, _<_}

@@ -117,9 +117,6 @@ box-centre (d ∷ ds) h =
 pub size-small : (r : ℕ) → r < 15 → size r ≤ 89478485
 size-small = at-le 15 89478485 size tt
 
-pub size-last : (r : ℕ) → r < 16 → size r ≤ 357913941
-size-last = at-le 16 357913941 size tt
-
 pub box-abs : (n : ℕ) (z : ℤ) → Upto n z → natAbs z ≤ n
 box-abs n z u = omega (arith, abs-parts z)
 

@@ -1,4 +1,4 @@
--- What the contracts of functions inside the crate cite, no part of document 01: an answer with its size, and the one shape of the three images.
+-- What the contracts of functions inside this crate and images cite, no part of document 01: an answer with its size, and the one shape of the three images.
 use mathlib.Core.Path.{_≡_}
 use mathlib.Core.Bool.{Bool, true, false}
 use Prim.Native.Nat.{ℕ, _+_, _*_, _≤_}

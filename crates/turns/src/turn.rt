@@ -4,7 +4,6 @@ ghost use mathlib.Core.Bool.{true};
 ghost use mathlib.Core.List.{map};
 ghost use Prim.Native.Nat.{ℕ, _^_, _≤_, _<_};
 ghost use Rattle.plane.specs.Directions.{turns};
-ghost use Rattle.plane.specs.Strings.{Digits};
 ghost use Rattle.index.specs.Layout.{Valid, resOf, digit};
 ghost use Rattle.index.specs.View.{used};
 ghost use Rattle.index.specs.Written.{WithDigits};
@@ -55,7 +54,7 @@ fn turn_word(x: u64, count: u64) -> u64
 
 // A number with each used digit turned; under a pentagon base cell it need be no cell, before or after.
 pub fn turn_digits(n: u64, ccw: bool, count: u8) -> u64
-    requires { ⌜ Digits (used n (resOf n)) × ((s : ℕ) → resOf n < s → s ≤ 15 → digit n s ≡ 7) × (count ≤ 5) ⌝ }
+    requires { ⌜ ((s : ℕ) → resOf n < s → s ≤ 15 → digit n s ≡ 7) × (count ≤ 5) ⌝ }
     ensures { λ y. ⌜ WithDigits n (map (turns ccw count) (used n (resOf n))) y ⌝ }
 {
     let k = count as u64;

@@ -15,7 +15,7 @@ use Rattle.index.specs.Written.{WithDigits}
 use Rattle.index.proofs.View.{first-used, pack-valid}
 use Rattle.walks.specs.Walks.{walkedOf, carryOf}
 use Rattle.grid.specs.Steps.{inside, leaves, stepOf}
-use Rattle.grid.proofs.Steps.{olds, news, leaving, staying, refusing, turning-ccw, turning-cw, fit-news, fit-turned, news-digits, walked-used, walked-rest, walked-first, walked-turned}
+use Rattle.grid.proofs.Steps.{olds, news, leaving, staying, refusing, turning-ccw, turning-cw, fit-news, fit-turned, walked-rest, walked-first, walked-turned}
 use Rattle.grid.proofs.algo.step.Statement.{statement}
 use Rattle.grid.proofs.algo.step.Tie as tie
 
@@ -29,7 +29,7 @@ record Base (n way y e : ℕ) : Type 0 where
 
 -- what may be turned
 abbrev Turnable : ℕ → Type 0
-Turnable x = Digits (used x (resOf x)) × ((s : ℕ) → resOf x < s → s ≤ 15 → digit x s ≡ 7) × (1 ≤ 5)
+Turnable x = ((s : ℕ) → resOf x < s → s ≤ 15 → digit x s ≡ 7) × (1 ≤ 5)
 
 module _ (n way y e : ℕ) (b : Base n way y e) where
   left : (e ≡ 0 → ⊥) → answered (leaves e) ≡ stepOf n way
@@ -40,7 +40,7 @@ module _ (n way y e : ℕ) (b : Base n way y e) where
 
   turnable : Turnable y
   turnable =
-      subst Turnable (sym (b .number)) (subst Digits (sym (walked-used n way (b .cell) (b .small))) (news-digits n way (b .cell) (b .small)), walked-rest n way (b .cell) (b .small), omega arith)
+      subst Turnable (sym (b .number)) (walked-rest n way (b .cell) (b .small), omega arith)
 
 -- where the answer is the walk's number
 record Plain (n way y : ℕ) : Type 0 where

@@ -1,15 +1,14 @@
 -- `turns::turn::rotate60` meets its contract. Assumes nothing.
 use borrow.Author.Needs.{needs}
-use mathlib.Core.Path.{_≡_, sym, subst}
+use mathlib.Core.Path.{sym, subst}
 use mathlib.Core.List.{map}
-use Prim.Native.Nat.{ℕ, _≤_, _<_}
+use Prim.Native.Nat.{ℕ}
 use native.Mathlib.Omega.{arith}
 use Rattle.plane.specs.Directions.{turns}
 use Rattle.plane.specs.Strings.{Digits}
 use Rattle.index.specs.Layout.{Valid, resOf, digit}
 use Rattle.index.specs.View.{used}
 use Rattle.index.specs.Written.{WithDigits}
-use Rattle.index.proofs.View.{fit}
 use Rattle.index.proofs.Redrawn.{redrawn-cell}
 use Rattle.turns.specs.Turns.{turnedBy}
 use Rattle.turns.proofs.turn.rotate60.Statement.{statement}
@@ -18,11 +17,8 @@ use Rattle.turns.proofs.turn.rotate60.Tie as tie
 number-of-requires : tie.Need-number-of-requires
 number-of-requires c κs = search needs
 
-asked : (n m : ℕ) → m ≡ n → Valid n → Digits (used m (resOf m)) × ((s : ℕ) → resOf m < s → s ≤ 15 → digit m s ≡ 7)
-asked n m e v = let w = subst Valid (sym e) v in (fit m w .digits, w .rest)
-
 turn-digits-requires : tie.Need-turn-digits-requires
-turn-digits-requires c κs = let a = asked _ _ (c .number-of .ensures) (c .before .pre .0) in (a .0, a .1, c .before .pre .1)
+turn-digits-requires c κs = (subst Valid (sym (c .number-of .ensures)) (c .before .pre .0) .rest, c .before .pre .1)
 
 returns : tie.Need-returns
 unfolding turnedBy
