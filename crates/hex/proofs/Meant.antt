@@ -1,5 +1,5 @@
 -- When the last refusal of an entry is given, in the words of document 01's table: 11 of a cursor, 12, 15, 16 and 17. Those before it are given by their
--- tests alone, in order (index/proofs/Rules). Assumes nothing.
+-- tests alone, in order (index/proofs/Rules). And every point answered is in normal form. Assumes nothing.
 use mathlib.Core.Path.{_≡_, refl, sym, ap, _∙_, subst}
 use mathlib.Core.Bool.{Bool, true, false, not, cond, _||_, true≢false}
 use mathlib.Core.Logic.{⊎-elim, _↔_}
@@ -11,9 +11,10 @@ use lib.IntN.{pos}
 use lib.Signed.{leZ}
 use borrow.Author.Tests.{ltb-false, le-ltb, eqb-false, not-true, not-false}
 use Rattle.index.specs.Layout.{Valid, resOf}
-use Rattle.index.specs.Refusals.{_when_, Outcome, answered, refused, judged, Met}
+use Rattle.index.specs.Refusals.{Rule, _when_, Outcome, answered, refused, judged, Met}
+use Rattle.index.specs.View.{used}
 use Rattle.index.specs.Check.{cellRules}
-use Rattle.index.proofs.Rules.{refused-inj, never, refused-met, answered-clear, clear-answered, clear-parts, cleared, hit, Others, later, joined}
+use Rattle.index.proofs.Rules.{refused-inj, never, refused-met, answered-same, answered-clear, clear-answered, clear-parts, cleared, hit, Others, later, joined}
 use Rattle.index.proofs.Some.{both-off}
 use Rattle.index.proofs.Validity.{clear-valid, valid-clear}
 use Rattle.plane.specs.Directions.{unit}
@@ -21,7 +22,9 @@ use Rattle.plane.specs.Points.{normal, largest, value, direction, Same, directi
 use Rattle.plane.specs.Ranges.{point-in-range}
 use Rattle.plane.specs.declared.ijk.IJK.{IJK}
 use Rattle.plane.specs.declared.ijk.Way.the-variants.{Found, NotUnit}
-use Rattle.plane.proofs.Units.{apart, not-unit}
+use Rattle.plane.proofs.Normal.{normal-same}
+use Rattle.plane.proofs.Units.{unit-normal, apart, not-unit}
+use Rattle.plane.proofs.Centres.{centre-normal}
 use Rattle.descent.specs.Descendants.{Descendant}
 use Rattle.descent.specs.Positions as positions
 use Rattle.descent.proofs.Ancestors.{under-descendant, descendant-under}
@@ -30,13 +33,15 @@ use Rattle.children.specs.declared.children.Cursor.{Cursor}
 use Rattle.children.specs.declared.children.Given.{Given}
 use Rattle.children.proofs.Reach.{unmade-refused, made-given}
 use Rattle.centres.specs.Centres.{StringOf, Reads}
+use Rattle.centres.specs.Centres as centres
 use Rattle.grid.specs.Steps as steps
 use Rattle.grid.proofs.Inside.{Pentagon, deleted-way}
 use Rattle.entry.specs.Answers.{toldGiven}
-use Rattle.entry.specs.Rules.{resolutionRule, rangeRule, onwardRule}
+use Rattle.entry.specs.Rules.{resolutionRule, wayRule, rangeRule, onwardRule}
 use Rattle.cell_entries.specs.Cells.{positionOf}
-use Rattle.point_entries.specs.Points.{directionOf, unitRule}
+use Rattle.point_entries.specs.Points.{unitOf, directionOf, unitRule}
 use Rattle.step_entries.specs.Steps.{ReadsBack, Under, onwardRules, after, stepOf}
+use Rattle.step_entries.specs.Steps as entries
 
 -- the rules of a cell have the numbers 1 to 7
 others : (n k : ℕ) → 7 < k → Others k (cellRules n)
@@ -131,3 +136,17 @@ given-17 n way = (λ e. there (judged (onwardRules n way) tt) refl e, back)
         let w : way ≡ 1 = p .2 in
         ap (λ (o : Outcome (Unit {0})). after o (steps.stepOf n way)) (clear-answered (onwardRules n way) tt (joined (cellRules n) (onwardRule way ∷ []) (valid-clear n (p .0)) (ap (λ (x : ℕ). eqb x 0 || ltb 6 x) w, tt)))
         ∙ deleted-way n way (p .0) (omega arith) (omega arith) .1 (p .1, p .2)
+
+-- every point answered is in normal form: where the answer is the normal form of something, as normalise, neighbour, from_ij and the images have it, and
+-- where it is a unit vector or a centre
+pub normal-answered : (rules : List Rule) (t p : IJK) → judged rules (normal t) ≡ answered p → normal p ≡ p
+normal-answered rules t p e = subst (λ (x : IJK). normal x ≡ x) (answered-same rules (normal t) p e) (normal-same t)
+
+pub unit-answered : (d : ℕ) (p : IJK) → unitOf d ≡ answered p → normal p ≡ p
+unit-answered d p e =
+    let c = answered-clear (wayRule d ∷ []) (unit d) p e in
+    subst (λ (x : IJK). normal x ≡ x) (answered-same (wayRule d ∷ []) (unit d) p e) (unit-normal d (omega (arith, ltb-false 6 d (c .0))))
+
+pub centre-answered : (n : ℕ) (p : IJK) → entries.centreOf n ≡ answered p → normal p ≡ p
+unfolding centres.centreOf
+centre-answered n p e = subst (λ (x : IJK). normal x ≡ x) (answered-same (cellRules n) (centres.centreOf n) p e) (centre-normal (used n (resOf n)))
