@@ -9,6 +9,7 @@ ghost use Rattle.centres.specs.Centres.{centreOf, Reads, toldRead};
 use index::Cell;
 use index::Resolution;
 use index::inside;
+use index::inside::ONE_RESOLUTION;
 use plane::direction;
 use plane::direction::Direction;
 use plane::ijk;
@@ -18,9 +19,6 @@ use plane::number::is_odd;
 
 // Resolution 0 in base cell 0: each digit is 7.
 const COARSEST: u64 = 0x0800_1fff_ffff_ffff;
-
-// One in the field of the resolution.
-const ONE_RESOLUTION: u64 = 0x10_0000_0000_0000;
 
 // The centre of a cell's used digits, whatever the base cell.
 pub fn centre(c: Cell) -> IJK

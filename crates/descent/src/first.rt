@@ -1,17 +1,15 @@
-// The first descendant.
+// The first descendant (index/iterator/children.rs).
 ghost use mathlib.Core.Path.{_≡_};
 ghost use Prim.Native.Nat.{_≤_};
 ghost use Rattle.index.specs.Layout.{Valid, resOf};
 ghost use Rattle.descent.specs.Positions.{childAt};
 use index::Cell;
 use index::Resolution;
+use index::inside::ONE_RESOLUTION;
 use index::inside::number_of;
 use index::inside::place;
 use index::inside::resolution_number;
 use index::inside::resolution_of;
-
-// One in the field of the resolution.
-const ONE_RESOLUTION: u64 = 0x10_0000_0000_0000;
 
 // The first child: 0 in the places between the resolutions.
 pub fn get_starting_state(c: Cell, t: Resolution) -> u64

@@ -11,6 +11,9 @@ use crate::inside::place;
 // The 45 bits of the digits, and one more.
 pub const DIGITS_END: u64 = 0x2000_0000_0000;
 
+// One in the field of the resolution.
+pub const ONE_RESOLUTION: u64 = 0x10_0000_0000_0000;
+
 // One in the place of each digit.
 pub const ONES: u64 = 0o111111111111111;
 

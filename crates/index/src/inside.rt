@@ -10,6 +10,7 @@ use crate::Digit;
 use crate::Refusal;
 use crate::Resolution;
 pub use crate::bits::DIGITS_END;
+pub use crate::bits::ONE_RESOLUTION;
 pub use crate::bits::ONES;
 use crate::bits::SEVENS;
 use crate::bits::first_axe;

@@ -5,11 +5,9 @@ ghost use Rattle.index.specs.Layout.{Valid, resOf};
 ghost use Rattle.index.specs.Ancestor.{ancestorOf};
 use crate::Cell;
 use crate::Resolution;
+use crate::bits::ONE_RESOLUTION;
 use crate::bits::get_resolution;
 use crate::inside::place;
-
-// One in the field of the resolution.
-const ONE_RESOLUTION: u64 = 0x10_0000_0000_0000;
 
 pub fn ancestor(c: Cell, t: Resolution) -> Cell
     requires { ⌜ Valid (c .0) × (t .0 ≤ resOf (c .0)) ⌝ }
