@@ -4,7 +4,7 @@ ghost use Rattle.plane.specs.Directions.{unit, turn, turns};
 use crate::ijk::IJK;
 
 // A direction, 0 to 6.
-#[derive(Drop)]
+#[derive(Clone, Copy)]
 pub struct Direction(u8);
 
 // The direction of a number.

@@ -10,7 +10,7 @@ use crate::direction::Direction;
 use crate::number::{greater, in_range, less, lesser, scaled};
 
 // A point of the plane.
-#[derive(Drop)]
+#[derive(Clone, Copy)]
 pub struct IJK {
     pub i: i32,
     pub j: i32,
@@ -18,14 +18,14 @@ pub struct IJK {
 }
 
 // The IJ form of a point.
-#[derive(Drop)]
+#[derive(Clone, Copy)]
 pub struct IJ {
     pub i: i32,
     pub j: i32,
 }
 
 // The direction of a point, where it is a unit vector or zero.
-#[derive(Drop)]
+#[derive(Clone, Copy)]
 pub enum Way {
     Found(Direction),
     NotUnit,

@@ -1,4 +1,6 @@
 // Directions and points of the plane (direction.rs, coord/ijk.rs).
+#![tactic(auto)]
+
 pub mod direction;
 pub mod ijk;
 pub mod number;

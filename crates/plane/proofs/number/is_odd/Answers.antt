@@ -1,14 +1,11 @@
--- `plane::number::is_odd` meets its contract. Assumes nothing.
-use mathlib.Core.Path.{◌≡◌, refl, sym, ap, ◌∙◌}
+-- One more turns the parity over.
+use Rattle.std.proofs.Common.{◌≡◌, ℕ, zero, suc, ◌%◌, ◌<◌, arith, refl, sym, ap, ◌∙◌, eq-eqb}
 use mathlib.Core.Bool.{not}
 use mathlib.Core.Logic.{◌⊎◌, inl, inr, ⊎_elim}
-use Prim.Native.Nat.{ℕ, zero, suc, ◌%◌, ◌<◌}
-use native.Mathlib.Omega.{arith}
 use lib.Dec.{eqb}
-use borrow.Author.Tests.{eq-eqb, ne_eqb}
+use borrow.Author.Tests.{ne_eqb}
 use Rattle.plane.specs.Strings.{odd}
-use Rattle.plane.proofs.number.is_odd.Statement.{statement}
-use Rattle.plane.proofs.number.is_odd.Tie as tie
+use Rattle.plane.proofs.number.is_odd.Goals as goal
 
 two : (m : ℕ) → m < 2 → (m ≡ 0) ⊎ (m ≡ 1)
 two zero h = inl refl
@@ -25,8 +22,5 @@ parity : (r : ℕ) → eqb (r % 2) 1 ≡ odd r
 parity zero = refl
 parity (suc r) = flip r ∙ ap not (parity r)
 
-returns : tie.Need-returns
+pub returns : goal.returns
 returns c = parity c.args.r
-
-pub is_odd_spec : {M : Type 1} → statement M
-is_odd_spec = tie.close (tie.spec returns)

@@ -1,8 +1,5 @@
--- `plane::ijk::normalize` meets its contract. Assumes nothing.
-use mathlib.Core.Path.{◌≡◌, ap, ◌∙◌}
-use Prim.Native.Nat.{◌≤◌}
-use native.Mathlib.Omega.{arith}
-use borrow.Author.Rules.{rules}
+-- The least component is no larger than any, so that each difference fits and is read back as it is.
+use Rattle.std.proofs.Common.{◌≡◌, ◌≤◌, arith, ap, ◌∙◌}
 use lib.IntN.{ℤ, nat_abs, ◌-ℤ◌}
 use mir.Syntax.{w32}
 use mir.Val.{SFits}
@@ -10,14 +7,7 @@ use mir.Facts.{to_z-of_z}
 use Rattle.plane.specs.Points.{lesser}
 use Rattle.plane.specs.Directions.{triple}
 use Rattle.plane.proofs.Bounds.{fits, rd, abs_sub, abs_lesser}
-use Rattle.plane.proofs.ijk.normalize.Statement.{statement}
-use Rattle.plane.proofs.ijk.normalize.Tie as tie
-
-lesser-requires : tie.Need-lesser-requires
-lesser-requires c κs = search rules
-
-lesser-requires-2 : tie.Need-lesser-requires-2
-lesser-requires-2 c κs = search rules
+use Rattle.plane.proofs.ijk.normalize.Goals as goal
 
 -- what is known once the least component is there
 record Known (i j k m : ℤ) : Type 0 where
@@ -50,26 +40,8 @@ known i j k n m hi hj hk en em =
       dk = fits (k -ℤ m) (omega (arith, abs_sub k m));
     }
 
-at : (c : tie.After-lesser2) → Known c.before.before.before.before.before.args.p.i c.before.before.before.before.before.args.p.j c.before.before.before.before.before.args.p.k c.lesser2.result
-at c =
-    let s = c.before.before.before.before.before in
-    known s.args.p.i s.args.p.j s.args.p.k c.before.lesser.result c.lesser2.result s.requires.i s.requires.j s.requires.k c.before.lesser.ensures c.lesser2.ensures
-
-returns : tie.Need-returns
+pub returns : goal.returns
 returns c =
-    let h = at c in
-    let p = c.before.before.before.before.before.args.p in
+    let p = c.args.p in
+    let h = known p.i p.j p.k c.lesser.result c.lesser-m.result c.requires.i c.requires.j c.requires.k c.lesser.ensures c.lesser-m.ensures in
     simp (to_z-of_z, h.fi, h.fj, h.fk, h.fm, h.di, h.dj, h.dk) (ap (λ (m : ℤ). triple (p.i -ℤ m) (p.j -ℤ m) (p.k -ℤ m)) h.low)
-
-sub-t6 : tie.Need-overflow-sub-t6
-sub-t6 c = let h = at c in simp (to_z-of_z, h.fi, h.fm) h.di
-
-sub-t7 : tie.Need-overflow-sub-t7
-sub-t7 c = let h = at c in simp (to_z-of_z, h.fj, h.fm) h.dj
-
-sub-t8 : tie.Need-overflow-sub-t8
-sub-t8 c = let h = at c in simp (to_z-of_z, h.fk, h.fm) h.dk
-
-pub normalize_spec : {M : Type 1} → statement M
-normalize_spec =
-    tie.close (tie.spec lesser-requires lesser-requires-2 sub-t6 sub-t7 sub-t8 returns)
