@@ -7,7 +7,7 @@ ghost use Rattle.cell_entries.specs.Cells.{finerOf, toldWanted};
 use index::inside::{refusal, resolution, resolution_number, resolution_of};
 use index::{Cell, Refusal, Resolution};
 
-#[derive(Drop)]
+#[derive(Clone, Copy)]
 pub(crate) enum Wanted {
     At(Cell, Resolution),
     Refused(Refusal),

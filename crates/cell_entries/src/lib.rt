@@ -1,4 +1,6 @@
 // Entries that take a cell: the check, its descendants and its ancestors.
+#![tactic(auto)]
+
 mod entries;
 mod finer;
 

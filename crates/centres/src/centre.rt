@@ -35,7 +35,7 @@ pub fn centre(c: Cell) -> IJK
     p
 }
 
-#[derive(Drop)]
+#[derive(Clone, Copy)]
 pub enum Read {
     Found(Cell),
     // Refusal 15.

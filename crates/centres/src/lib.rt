@@ -1,2 +1,4 @@
 // Centres of cells.
+#![tactic(auto)]
+
 pub mod centre;

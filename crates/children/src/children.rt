@@ -13,7 +13,7 @@ use index::inside::{
 use index::{Cell, Resolution};
 
 // The number that the next child is made in, and the resolution where the digit 1 is skipped next, or -1.
-#[derive(Drop)]
+#[derive(Clone, Copy)]
 struct Scratch {
     number: u64,
     skip: i32,
@@ -73,7 +73,7 @@ pub(crate) fn skip_count(pentagon: bool, z: u64) -> i32
     -1
 }
 
-#[derive(Drop)]
+#[derive(Clone, Copy)]
 pub struct Cursor {
     pub own: u32,
     pub target: u32,
@@ -83,7 +83,7 @@ pub struct Cursor {
 }
 
 // What a call gives. The cursor handed back is the following one, or the same where there is no child.
-#[derive(Drop)]
+#[derive(Clone, Copy)]
 pub enum Given {
     Child(u64, Cursor),
     Done(Cursor),

@@ -1,4 +1,6 @@
 // The cursor over the descendants of a cell (index/iterator/children.rs).
+#![tactic(auto)]
+
 mod children;
 mod legal;
 

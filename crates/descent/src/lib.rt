@@ -1,4 +1,6 @@
 // The descendants of a cell: how many, and the first.
+#![tactic(auto)]
+
 mod count;
 mod first;
 

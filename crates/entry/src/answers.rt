@@ -7,55 +7,55 @@ use children::Cursor;
 use index::Refusal;
 use plane::ijk::{IJ, IJK};
 
-#[derive(Drop)]
+#[derive(Clone, Copy)]
 pub enum Checked {
     Valid,
     Refused(Refusal),
 }
 
 // A cell, a count, a position, a direction or a distance.
-#[derive(Drop)]
+#[derive(Clone, Copy)]
 pub enum Number {
     Is(u64),
     Refused(Refusal),
 }
 
-#[derive(Drop)]
+#[derive(Clone, Copy)]
 pub enum Truth {
     Is(bool),
     Refused(Refusal),
 }
 
 // A point, in normal form.
-#[derive(Drop)]
+#[derive(Clone, Copy)]
 pub enum Point {
     At(IJK),
     Refused(Refusal),
 }
 
 // The IJ form of a point.
-#[derive(Drop)]
+#[derive(Clone, Copy)]
 pub enum Pair {
     At(IJ),
     Refused(Refusal),
 }
 
 // A fresh cursor.
-#[derive(Drop)]
+#[derive(Clone, Copy)]
 pub enum Started {
     At(Cursor),
     Refused(Refusal),
 }
 
 // A number with the new digits, and the carry: 0 if none.
-#[derive(Drop)]
+#[derive(Clone, Copy)]
 pub enum Walked {
     To(u64, u32),
     Refused(Refusal),
 }
 
 // A cell of the same base cell and the turn number, or the direction in which the base cell is left.
-#[derive(Drop)]
+#[derive(Clone, Copy)]
 pub enum Stepped {
     Inside(u64, u32),
     Leaves(u32),

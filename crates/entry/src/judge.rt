@@ -7,7 +7,7 @@ use plane::ijk::IJK;
 use plane::{direction, ijk};
 
 // 0 to 6, or refusal 13.
-#[derive(Drop)]
+#[derive(Clone, Copy)]
 pub enum Heading {
     To(Direction),
     Nowhere,
@@ -33,7 +33,7 @@ pub fn onward(number: u32) -> Heading
 }
 
 // A point within the range, or refusal 14.
-#[derive(Drop)]
+#[derive(Clone, Copy)]
 pub enum Place {
     Within(IJK),
     Outside,

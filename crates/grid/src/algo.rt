@@ -8,7 +8,7 @@ use plane::direction;
 use plane::direction::Direction;
 use walks::walk;
 
-#[derive(Drop)]
+#[derive(Clone, Copy)]
 pub enum Stepped {
     // A cell of the same base cell, and the turn number.
     Inside(Cell, u8),

@@ -1,4 +1,6 @@
 // Answers the requests on standard input, one a line, on standard output; with an argument, tells of itself.
+#![tactic(auto)]
+
 mod answer;
 mod help;
 mod serve;

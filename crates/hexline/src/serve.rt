@@ -6,7 +6,7 @@ use replies::out::{Buffer, Out};
 use words::Line;
 
 // The line that is being read, and the answers that wait.
-#[derive(Drop)]
+#[derive(Clone, Copy)]
 struct Reading {
     line: Line,
     out: Out,

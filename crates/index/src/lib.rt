@@ -1,4 +1,6 @@
 // The 64 bits of an index (index/bits.rs and the public layout): its kinds, its fields, and the check of a raw number.
+#![tactic(auto)]
+
 ghost use Rattle.std.specs.Prelude.{◌≡◌};
 ghost use Rattle.index.specs.Refusals.{number_of};
 ghost use Rattle.index.specs.Check.{told};
@@ -12,23 +14,23 @@ mod raw;
 pub use raw::{check, check_flat};
 
 // A number that the check let through.
-#[derive(Drop)]
+#[derive(Clone, Copy)]
 pub struct Cell(u64);
 
 // 0 to 15.
-#[derive(Drop)]
+#[derive(Clone, Copy)]
 pub struct Resolution(u64);
 
 // 0 to 121.
-#[derive(Drop)]
+#[derive(Clone, Copy)]
 pub struct BaseCell(u64);
 
 // A used digit, 0 to 6.
-#[derive(Drop)]
+#[derive(Clone, Copy)]
 pub struct Digit(u64);
 
 // Why a request is refused: a number of document 01's table.
-#[derive(Drop)]
+#[derive(Clone, Copy)]
 pub struct Refusal(u16);
 
 impl Refusal {
@@ -39,7 +41,7 @@ impl Refusal {
     }
 }
 
-#[derive(Drop)]
+#[derive(Clone, Copy)]
 pub enum Checked {
     Valid(Cell),
     Refused(Refusal),

@@ -1,4 +1,6 @@
 // The descendants of a cell into a lent buffer.
+#![tactic(auto)]
+
 mod blocks;
 
 pub use blocks::list;

@@ -6,7 +6,7 @@ ghost use Rattle.outward.specs.Exports.{numberOut, truthOut, pointOut, pairOut, 
 use entry::{Number, Pair, Point, Stepped, Truth, Walked};
 
 #[repr(C)]
-#[derive(Drop)]
+#[derive(Clone, Copy)]
 pub struct RgChecked {
     pub refusal: u16,
     pub zero: u16,
@@ -14,7 +14,7 @@ pub struct RgChecked {
 
 // A cell, a count, a position, a direction, a distance, or 0 and 1 for no and yes.
 #[repr(C)]
-#[derive(Drop)]
+#[derive(Clone, Copy)]
 pub struct RgNumber {
     pub refusal: u16,
     pub zero: u16,
@@ -22,7 +22,7 @@ pub struct RgNumber {
 }
 
 #[repr(C)]
-#[derive(Drop)]
+#[derive(Clone, Copy)]
 pub struct RgPoint {
     pub refusal: u16,
     pub zero: u16,
@@ -32,7 +32,7 @@ pub struct RgPoint {
 }
 
 #[repr(C)]
-#[derive(Drop)]
+#[derive(Clone, Copy)]
 pub struct RgPair {
     pub refusal: u16,
     pub zero: u16,
@@ -42,7 +42,7 @@ pub struct RgPair {
 
 // A number with the new digits, and the carry: 0 if none.
 #[repr(C)]
-#[derive(Drop)]
+#[derive(Clone, Copy)]
 pub struct RgWalked {
     pub refusal: u16,
     pub zero: u16,
@@ -52,7 +52,7 @@ pub struct RgWalked {
 
 // Kind 0: a cell of the same base cell and the turn number. Kind 1: the base cell is left in direction `turn`.
 #[repr(C)]
-#[derive(Drop)]
+#[derive(Clone, Copy)]
 pub struct RgStepped {
     pub refusal: u16,
     pub zero: u16,

@@ -31,7 +31,7 @@ fn write(c: Cursor, words: &mut [u64; 5])
     ];
 }
 
-#[derive(Drop)]
+#[derive(Clone, Copy)]
 enum Skip {
     Is(i32),
     Nothing,
@@ -50,7 +50,7 @@ fn skip_in(word: u64) -> Skip
     Skip::Is(-1 - below)
 }
 
-#[derive(Drop)]
+#[derive(Clone, Copy)]
 pub enum Read {
     At(Cursor),
     Nothing,

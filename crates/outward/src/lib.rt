@@ -1,4 +1,6 @@
 // What the C exports hand out, made of what entries answer, and the cursor as C keeps it.
+#![tactic(auto)]
+
 mod answers;
 mod cursors;
 

@@ -1,4 +1,6 @@
 // Entries on directions and points.
+#![tactic(auto)]
+
 mod entries;
 
 pub use entries::{

@@ -1,4 +1,6 @@
 // The positions of descendants, which this port adds.
+#![tactic(auto)]
+
 mod rank;
 
 pub use rank::{Found, child_at, position, rank_of};

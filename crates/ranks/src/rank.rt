@@ -14,7 +14,7 @@ use index::inside::{
 use index::{Cell, Resolution};
 
 // A position of a second cell below a first.
-#[derive(Drop)]
+#[derive(Clone, Copy)]
 pub enum Found {
     At(u64),
     NotUnder,

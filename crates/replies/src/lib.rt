@@ -1,4 +1,6 @@
 // Answers as bytes, on their way to standard output.
+#![tactic(auto)]
+
 pub mod lists;
 pub mod out;
 pub mod say;

@@ -9,10 +9,10 @@ const UNTOUCHED: u64 = 0xeeee_eeee_eeee_eeee;
 
 pub fn list(buf: &mut Buffer, o: Out, raw: u64, target: u32) -> Out {
     let mut cells = [UNTOUCHED; ROOM];
-    let a = hex::list(raw, target, &mut cells);
+    let a = hexagons::list(raw, target, &mut cells);
     match a {
-        hex::Number::Is(n) => say::cells(buf, o, &cells, n),
-        hex::Number::Refused(r) => say::refused(buf, o, r),
+        hexagons::Number::Is(n) => say::cells(buf, o, &cells, n),
+        hexagons::Number::Refused(r) => say::refused(buf, o, r),
     }
 }
 
@@ -28,14 +28,14 @@ pub fn in_room(buf: &mut Buffer, o: Out, raw: u64, target: u32, short: bool, roo
 // The answer, and every element afterwards. A short listing has no target.
 fn listed(buf: &mut Buffer, o: Out, raw: u64, target: u32, short: bool, cells: &mut [u64]) -> Out {
     if short {
-        let a = hex::list_short(raw, cells);
+        let a = hexagons::list_short(raw, cells);
         return afterwards(buf, o, a, cells);
     }
-    let a = hex::list(raw, target, cells);
+    let a = hexagons::list(raw, target, cells);
     afterwards(buf, o, a, cells)
 }
 
-fn afterwards(buf: &mut Buffer, o: Out, a: hex::Number, cells: &[u64]) -> Out {
+fn afterwards(buf: &mut Buffer, o: Out, a: hexagons::Number, cells: &[u64]) -> Out {
     let said = say::number(buf, o, a);
     let parted = out::text(buf, said, b" : ");
     say::cells(buf, parted, cells, cells.len() as u64)

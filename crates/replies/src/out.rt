@@ -7,7 +7,7 @@ use libc::STDOUT_FILENO;
 pub type Buffer = [u8; 65536];
 
 // The first `at` bytes wait. After a write that fails nothing is written any more.
-#[derive(Drop)]
+#[derive(Clone, Copy)]
 pub struct Out {
     at: u16,
     open: bool,

@@ -1,7 +1,7 @@
 // What a line is answered: the library's answer, or a list to be made where there is room for it.
-use hex::{Checked, Given, Number, Pair, Point, Started, Stepped, Truth, Walked};
+use hexagons::{Checked, Given, Number, Pair, Point, Started, Stepped, Truth, Walked};
 
-#[derive(Drop)]
+#[derive(Clone, Copy)]
 pub enum Answer {
     Malformed,
     Checked(Checked),

@@ -8,10 +8,10 @@ pub fn answer(line: Line) -> Answer {
         return turns::answer(line);
     };
     if line.is(b"check ", 2) {
-        return Answer::Checked(hex::check(cell));
+        return Answer::Checked(hexagons::check(cell));
     }
     if line.is(b"centre ", 2) {
-        return Answer::Point(hex::centre(cell));
+        return Answer::Point(hexagons::centre(cell));
     }
     if line.is(b"position ", 3) {
         return position(line, cell);
@@ -23,7 +23,7 @@ fn position(line: Line, first: u64) -> Answer {
     let Number::Value(second) = line.hexadecimal(2) else {
         return Answer::Malformed;
     };
-    Answer::Number(hex::position(first, second))
+    Answer::Number(hexagons::position(first, second))
 }
 
 fn of_cell_and_number(line: Line, cell: u64) -> Answer {
@@ -31,7 +31,7 @@ fn of_cell_and_number(line: Line, cell: u64) -> Answer {
         return turns::answer(line);
     };
     if line.is(b"count ", 3) {
-        return Answer::Number(hex::count(cell, n));
+        return Answer::Number(hexagons::count(cell, n));
     }
     if line.is(b"list ", 3) {
         return Answer::List(cell, n);
@@ -40,16 +40,16 @@ fn of_cell_and_number(line: Line, cell: u64) -> Answer {
         return Answer::ShortInRoom(cell, n);
     }
     if line.is(b"ancestor ", 3) {
-        return Answer::Cell(hex::ancestor(cell, n));
+        return Answer::Cell(hexagons::ancestor(cell, n));
     }
     if line.is(b"cursor ", 3) {
-        return Answer::Started(hex::cursor(cell, n));
+        return Answer::Started(hexagons::cursor(cell, n));
     }
     if line.is(b"walk ", 3) {
-        return Answer::Walked(hex::walk(cell, n));
+        return Answer::Walked(hexagons::walk(cell, n));
     }
     if line.is(b"step ", 3) {
-        return Answer::Stepped(hex::step(cell, n));
+        return Answer::Stepped(hexagons::step(cell, n));
     }
     if line.is(b"list ", 4) {
         return list_in_room(line, cell, n);
@@ -64,7 +64,7 @@ fn child_at(line: Line, cell: u64, target: u32) -> Answer {
     let Number::Value(position) = line.natural64(3) else {
         return Answer::Malformed;
     };
-    Answer::Cell(hex::child_at(cell, target, position))
+    Answer::Cell(hexagons::child_at(cell, target, position))
 }
 
 fn list_in_room(line: Line, cell: u64, target: u32) -> Answer {

@@ -1,4 +1,6 @@
 // The requests, and what each is answered.
+#![tactic(auto)]
+
 mod answers;
 mod cells;
 mod places;

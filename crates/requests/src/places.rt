@@ -1,10 +1,10 @@
 // Points that a line spells.
 ghost use Rattle.std.specs.Prelude.{◌≤◌};
 
-use hex::IJK;
+use hexagons::IJK;
 use words::{Line, Signed};
 
-#[derive(Drop)]
+#[derive(Clone, Copy)]
 pub enum Place {
     At(IJK),
     Nothing,

@@ -2,7 +2,7 @@
 use crate::answers::Answer;
 use crate::places;
 use crate::places::Place;
-use hex::{Cursor, IJ, IJK};
+use hexagons::{Cursor, IJ, IJK};
 use words::{Line, Number, Signed, Small};
 
 pub fn answer(line: Line) -> Answer {
@@ -16,7 +16,7 @@ pub fn answer(line: Line) -> Answer {
         return of_point(line);
     };
     if line.is(b"unit ", 2) {
-        return Answer::Point(hex::unit(n));
+        return Answer::Point(hexagons::unit(n));
     }
     if line.is(b"readback ", 5) {
         return read_back(line, n);
@@ -40,7 +40,7 @@ fn next(line: Line) -> Answer {
     let Number::Value(left) = line.natural64(5) else {
         return Answer::Malformed;
     };
-    let given = hex::next(Cursor {
+    let given = hexagons::next(Cursor {
         own,
         target,
         number,
@@ -57,14 +57,14 @@ fn from_ij(line: Line) -> Answer {
     let Signed::Value(j) = line.integer32(2) else {
         return Answer::Malformed;
     };
-    Answer::Point(hex::from_ij(IJ { i, j }))
+    Answer::Point(hexagons::from_ij(IJ { i, j }))
 }
 
 fn read_back(line: Line, length: u32) -> Answer {
     let Place::At(p) = places::read(line, 2) else {
         return Answer::Malformed;
     };
-    Answer::Cell(hex::read_back(length, p))
+    Answer::Cell(hexagons::read_back(length, p))
 }
 
 fn of_point(line: Line) -> Answer {
@@ -72,13 +72,13 @@ fn of_point(line: Line) -> Answer {
         return Answer::Malformed;
     };
     if line.is(b"normalise ", 4) {
-        return Answer::Point(hex::normalise(p));
+        return Answer::Point(hexagons::normalise(p));
     }
     if line.is(b"ij ", 4) {
-        return Answer::Pair(hex::to_ij(p));
+        return Answer::Pair(hexagons::to_ij(p));
     }
     if line.is(b"dirof ", 4) {
-        return Answer::Number(hex::direction_of(p));
+        return Answer::Number(hexagons::direction_of(p));
     }
     if line.is(b"neighbour ", 5) {
         return neighbour(line, p);
@@ -90,7 +90,7 @@ fn neighbour(line: Line, p: IJK) -> Answer {
     let Small::Value(d) = line.natural32(4) else {
         return Answer::Malformed;
     };
-    Answer::Point(hex::neighbour(p, d))
+    Answer::Point(hexagons::neighbour(p, d))
 }
 
 fn of_two_points(line: Line, p: IJK) -> Answer {
@@ -98,10 +98,10 @@ fn of_two_points(line: Line, p: IJK) -> Answer {
         return Answer::Malformed;
     };
     if line.is(b"same ", 7) {
-        return Answer::Truth(hex::same_point(p, q));
+        return Answer::Truth(hexagons::same_point(p, q));
     }
     if line.is(b"distance ", 7) {
-        return Answer::Number(hex::distance(p, q));
+        return Answer::Number(hexagons::distance(p, q));
     }
     Answer::Malformed
 }

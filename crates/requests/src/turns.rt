@@ -31,9 +31,9 @@ fn pentagon(line: Line, ccw: bool) -> Answer {
         return Answer::Malformed;
     };
     if ccw {
-        return Answer::Cell(hex::pentagon_turn_ccw(raw));
+        return Answer::Cell(hexagons::pentagon_turn_ccw(raw));
     }
-    Answer::Cell(hex::pentagon_turn_cw(raw))
+    Answer::Cell(hexagons::pentagon_turn_cw(raw))
 }
 
 fn cell(line: Line, ccw: bool) -> Answer {
@@ -44,9 +44,9 @@ fn cell(line: Line, ccw: bool) -> Answer {
         return Answer::Malformed;
     };
     if ccw {
-        return Answer::Cell(hex::turn_ccw(raw, n));
+        return Answer::Cell(hexagons::turn_ccw(raw, n));
     }
-    Answer::Cell(hex::turn_cw(raw, n))
+    Answer::Cell(hexagons::turn_cw(raw, n))
 }
 
 fn direction(line: Line, ccw: bool) -> Answer {
@@ -57,9 +57,9 @@ fn direction(line: Line, ccw: bool) -> Answer {
         return Answer::Malformed;
     };
     if ccw {
-        return Answer::Number(hex::direction_turn_ccw(d, n));
+        return Answer::Number(hexagons::direction_turn_ccw(d, n));
     }
-    Answer::Number(hex::direction_turn_cw(d, n))
+    Answer::Number(hexagons::direction_turn_cw(d, n))
 }
 
 fn of_point(line: Line) -> Answer {
@@ -67,28 +67,28 @@ fn of_point(line: Line) -> Answer {
         return points::answer(line);
     };
     if line.is(b"down7 ccw ", 5) {
-        return Answer::Point(hex::down7_ccw(p));
+        return Answer::Point(hexagons::down7_ccw(p));
     }
     if line.is(b"down7 cw ", 5) {
-        return Answer::Point(hex::down7_cw(p));
+        return Answer::Point(hexagons::down7_cw(p));
     }
     if line.is(b"down3 ccw ", 5) {
-        return Answer::Point(hex::down3_ccw(p));
+        return Answer::Point(hexagons::down3_ccw(p));
     }
     if line.is(b"down3 cw ", 5) {
-        return Answer::Point(hex::down3_cw(p));
+        return Answer::Point(hexagons::down3_cw(p));
     }
     if line.is(b"up7 ccw ", 5) {
-        return Answer::Point(hex::up7_ccw(p));
+        return Answer::Point(hexagons::up7_ccw(p));
     }
     if line.is(b"up7 cw ", 5) {
-        return Answer::Point(hex::up7_cw(p));
+        return Answer::Point(hexagons::up7_cw(p));
     }
     if line.is(b"turnpoint ccw ", 5) {
-        return Answer::Point(hex::point_turn_ccw(p));
+        return Answer::Point(hexagons::point_turn_ccw(p));
     }
     if line.is(b"turnpoint cw ", 5) {
-        return Answer::Point(hex::point_turn_cw(p));
+        return Answer::Point(hexagons::point_turn_cw(p));
     }
     points::answer(line)
 }

@@ -15,7 +15,7 @@ pub extern "C" fn rg_check_block(
 ) -> RgNumber
     ensures { (result ≡ numberOut (block_of cells.now values.old refusals.old)) × (values.new ≡ valuesAfter checkOf cells.now values.old refusals.old) × (refusals.new ≡ refusalsAfter checkOf cells.now values.old refusals.old) }
 {
-    number_out(hex::check_block(cells, values, refusals))
+    number_out(hexagons::check_block(cells, values, refusals))
 }
 
 #[unsafe(no_mangle)]
@@ -27,7 +27,7 @@ pub extern "C" fn rg_ancestor_block(
 ) -> RgNumber
     ensures { (result ≡ numberOut (block_of cells.now values.old refusals.old)) × (values.new ≡ valuesAfter (λ raw. ancestorOf raw resolution) cells.now values.old refusals.old) × (refusals.new ≡ refusalsAfter (λ raw. ancestorOf raw resolution) cells.now values.old refusals.old) }
 {
-    number_out(hex::ancestor_block(cells, resolution, values, refusals))
+    number_out(hexagons::ancestor_block(cells, resolution, values, refusals))
 }
 
 #[unsafe(no_mangle)]
@@ -39,5 +39,5 @@ pub extern "C" fn rg_position_block(
 ) -> RgNumber
     ensures { (result ≡ numberOut (block_of seconds.now values.old refusals.old)) × (values.new ≡ valuesAfter (position_of first) seconds.now values.old refusals.old) × (refusals.new ≡ refusalsAfter (position_of first) seconds.now values.old refusals.old) }
 {
-    number_out(hex::position_block(first, seconds, values, refusals))
+    number_out(hexagons::position_block(first, seconds, values, refusals))
 }

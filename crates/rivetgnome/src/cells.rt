@@ -11,47 +11,47 @@ use outward::{RgChecked, RgNumber, number_out, refusal_out};
 pub extern "C" fn rg_check(cell: u64) -> RgChecked
     ensures { (result.refusal ≡ number_of (valid_of cell)) × (result.zero ≡ 0) }
 {
-    refusal_out(hex::check(cell).refusal())
+    refusal_out(hexagons::check(cell).refusal())
 }
 
 #[unsafe(no_mangle)]
 pub extern "C" fn rg_count(cell: u64, target: u32) -> RgNumber
     ensures { result ≡ numberOut (count_of cell target) }
 {
-    number_out(hex::count(cell, target))
+    number_out(hexagons::count(cell, target))
 }
 
 #[unsafe(no_mangle)]
 pub extern "C" fn rg_list(cell: u64, target: u32, buf: &mut [u64]) -> RgNumber
     ensures { (result ≡ numberOut (list_of cell target (length buf.old))) × (buf.new ≡ afterwards (list_of cell target (length buf.old)) cell target buf.old) }
 {
-    number_out(hex::list(cell, target, buf))
+    number_out(hexagons::list(cell, target, buf))
 }
 
 #[unsafe(no_mangle)]
 pub extern "C" fn rg_list_short(cell: u64, buf: &mut [u64]) -> RgNumber
     ensures { (result ≡ numberOut (listShortOf cell (length buf.old))) × (buf.new ≡ afterwards (listShortOf cell (length buf.old)) cell (resOf cell + 1) buf.old) }
 {
-    number_out(hex::list_short(cell, buf))
+    number_out(hexagons::list_short(cell, buf))
 }
 
 #[unsafe(no_mangle)]
 pub extern "C" fn rg_child_at(cell: u64, target: u32, position: u64) -> RgNumber
     ensures { result ≡ numberOut (childAtOf cell target position) }
 {
-    number_out(hex::child_at(cell, target, position))
+    number_out(hexagons::child_at(cell, target, position))
 }
 
 #[unsafe(no_mangle)]
 pub extern "C" fn rg_position(first: u64, second: u64) -> RgNumber
     ensures { result ≡ numberOut (position_of first second) }
 {
-    number_out(hex::position(first, second))
+    number_out(hexagons::position(first, second))
 }
 
 #[unsafe(no_mangle)]
 pub extern "C" fn rg_ancestor(cell: u64, resolution: u32) -> RgNumber
     ensures { result ≡ numberOut (ancestorOf cell resolution) }
 {
-    number_out(hex::ancestor(cell, resolution))
+    number_out(hexagons::ancestor(cell, resolution))
 }

@@ -11,7 +11,7 @@ use outward::{Read, RgChecked, RgNumber, cursor_in, given_out, started_out};
 pub extern "C" fn rg_cursor(cell: u64, target: u32, out: &mut [u64; 5]) -> RgChecked
     ensures { (result.refusal ≡ number_of (cursorOf cell target)) × (result.zero ≡ 0) × (out.new ≡ startedWords out.old (cursorOf cell target)) }
 {
-    started_out(hex::cursor(cell, target), out)
+    started_out(hexagons::cursor(cell, target), out)
 }
 
 #[unsafe(no_mangle)]
@@ -26,5 +26,5 @@ pub extern "C" fn rg_next(cursor: &mut [u64; 5]) -> RgNumber
             value: 0,
         };
     };
-    given_out(hex::next(c), cursor)
+    given_out(hexagons::next(c), cursor)
 }

@@ -5,7 +5,7 @@ ghost use Rattle.outward.specs.Exports.{numberOut, pointOut, walkedOut, steppedO
 ghost use Rattle.rivetgnome.specs.Steps.{ReadsBackOut};
 ghost use Rattle.plane.specs.Directions.{triple};
 
-use hex::IJK;
+use hexagons::IJK;
 use outward::{
     RgNumber, RgPoint, RgStepped, RgWalked, number_out, point_out, stepped_out, walked_out,
 };
@@ -14,54 +14,54 @@ use outward::{
 pub extern "C" fn rg_turn_ccw(cell: u64, count: u32) -> RgNumber
     ensures { result ≡ numberOut (turn_of true cell count) }
 {
-    number_out(hex::turn_ccw(cell, count))
+    number_out(hexagons::turn_ccw(cell, count))
 }
 
 #[unsafe(no_mangle)]
 pub extern "C" fn rg_turn_cw(cell: u64, count: u32) -> RgNumber
     ensures { result ≡ numberOut (turn_of false cell count) }
 {
-    number_out(hex::turn_cw(cell, count))
+    number_out(hexagons::turn_cw(cell, count))
 }
 
 #[unsafe(no_mangle)]
 pub extern "C" fn rg_pentagon_turn_ccw(cell: u64) -> RgNumber
     ensures { result ≡ numberOut (pentagonTurnOf true cell) }
 {
-    number_out(hex::pentagon_turn_ccw(cell))
+    number_out(hexagons::pentagon_turn_ccw(cell))
 }
 
 #[unsafe(no_mangle)]
 pub extern "C" fn rg_pentagon_turn_cw(cell: u64) -> RgNumber
     ensures { result ≡ numberOut (pentagonTurnOf false cell) }
 {
-    number_out(hex::pentagon_turn_cw(cell))
+    number_out(hexagons::pentagon_turn_cw(cell))
 }
 
 #[unsafe(no_mangle)]
 pub extern "C" fn rg_centre(cell: u64) -> RgPoint
     ensures { result ≡ pointOut (centreOf cell) }
 {
-    point_out(hex::centre(cell))
+    point_out(hexagons::centre(cell))
 }
 
 #[unsafe(no_mangle)]
 pub extern "C" fn rg_read_back(length: u32, i: i32, j: i32, k: i32) -> RgNumber
     ensures { ReadsBackOut length (triple i j k) result }
 {
-    number_out(hex::read_back(length, IJK { i, j, k }))
+    number_out(hexagons::read_back(length, IJK { i, j, k }))
 }
 
 #[unsafe(no_mangle)]
 pub extern "C" fn rg_walk(cell: u64, direction: u32) -> RgWalked
     ensures { result ≡ walkedOut (walk_of cell direction) }
 {
-    walked_out(hex::walk(cell, direction))
+    walked_out(hexagons::walk(cell, direction))
 }
 
 #[unsafe(no_mangle)]
 pub extern "C" fn rg_step(cell: u64, direction: u32) -> RgStepped
     ensures { result ≡ steppedOut (step_of cell direction) }
 {
-    stepped_out(hex::step(cell, direction))
+    stepped_out(hexagons::step(cell, direction))
 }

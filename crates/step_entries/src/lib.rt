@@ -1,4 +1,6 @@
 // Entries on turns of cells, centres, the walk and the step.
+#![tactic(auto)]
+
 mod entries;
 
 pub use entries::{

@@ -56,7 +56,7 @@ fn of_pair(at_odd: bool, two: u8, three: u8) -> u8
 }
 
 // The number with the new digits, and the carry: 0 if none.
-#[derive(Drop)]
+#[derive(Clone, Copy)]
 pub struct Walked {
     pub number: u64,
     pub carry: Direction,

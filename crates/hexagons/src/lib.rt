@@ -1,4 +1,6 @@
 // The library's face: the public entries. They take any numbers, and have no `requires`.
+#![tactic(auto)]
+
 pub use block_entries::{ancestor_block, check_block, position_block};
 pub use cell_entries::{
     ancestor, check, child_at, count, cursor, list, list_short, next, position,

@@ -10,7 +10,7 @@ use Rattle.grid.specs.Steps.{staysIn, outOfDeleted}
 use Rattle.grid.specs.Steps as steps
 use Rattle.centres.proofs.Computed.{computed}
 use Rattle.descent.specs.Positions.{below, childAt, tab, listing}
-use Rattle.hex.specs.Examples.{table, Holds}
+use Rattle.hexagons.specs.Examples.{table, Holds}
 
 pub examples : Holds table
 unfolding judged some first_of isPentagonal among listing tab childAt pack octal below used steps.step_of staysIn outOfDeleted carryOf first
