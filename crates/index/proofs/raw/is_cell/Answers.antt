@@ -1,5 +1,5 @@
--- `index::raw::is_cell` meets its contract: where its four parts are 0, each of the seven tests fails. Assumes nothing.
-use Rattle.std.proofs.Common.{◌≡◌, ℕ, ◌+◌, ◌-◌, ◌/◌, ◌%◌, ◌^◌, ◌<◌, ◌≤◌, cond, not, eqb, sym, ap, ◌∙◌, arith, rules, le-ltb, eqb-true}
+-- Where its four parts are 0, each of the seven tests fails.
+use Rattle.std.proofs.Common.{◌≡◌, ℕ, ◌+◌, ◌-◌, ◌/◌, ◌%◌, ◌^◌, ◌<◌, ◌≤◌, cond, not, eqb, sym, ap, ◌∙◌, arith, le-ltb, eqb-true}
 use native.Mathlib.Nat.{div-div-eq-div-mul}
 use lib.Bits.{bit_or, bit_xor, bit_and, and_le_l, and_le_r, or_add_and, xor_add_and}
 use Rattle.index.specs.Layout.{top_bit, mode_of, reservedOf, base_of, resOf, isPentagonal}
@@ -9,8 +9,7 @@ use Rattle.index.specs.Words.{Each, mark, ones, low}
 use Rattle.index.proofs.Rules.{clear-answered}
 use Rattle.index.proofs.Leading.{highs, first_is_one}
 use Rattle.index.proofs.Flags.{over, under}
-use Rattle.index.proofs.raw.is_cell.Statement.{statement}
-use Rattle.index.proofs.raw.is_cell.Tie as tie
+use Rattle.index.proofs.raw.is_cell.Goals as goal
 
 none_set : (a b : ℕ) → bit_or a b ≡ 0 → (a ≡ 0) × (b ≡ 0)
 none_set a b e =
@@ -61,47 +60,9 @@ cleared n b s u lo d eb eu m w l ed z =
     let kept = sym (first_is_one n b lo (bit_and n 30158033218998) eb w (highs n) other) ∙ le-ltb _ _ le in
     (ap (λ (x : ℕ). eqb x 1) (top n e), (ap (λ (x : ℕ). not (eqb x 1)) (mode n e), (ap (λ (x : ℕ). not (eqb x 0)) (reserved n e), (le-ltb 121 (base_of n) (omega arith), (seven, (other, (kept, tt)))))))
 
-get-base-cell-requires : tie.Need-get-base-cell-requires
-get-base-cell-requires c κs = search rules
-
-get-resolution-requires : tie.Need-get-resolution-requires
-get-resolution-requires c κs = search rules
-
-unused-requires : tie.Need-unused-requires
-unused-requires c κs = search rules
-
-marks-requires : tie.Need-marks-requires
-marks-requires c κs = search rules
-
-add-beyond : tie.Need-overflow-add-beyond
-add-beyond c = search rules
-
-low-bits-requires : tie.Need-low-bits-requires
-low-bits-requires c κs = search rules
-
-wrapping-sub-u64-requires : tie.Need-wrapping-sub-u64-requires
-wrapping-sub-u64-requires c κs = search rules
-
-returns : tie.Need-returns
+pub returns : goal.returns
 returns c t =
-    let w = c.before in
-    let s = w.before in
-    let u = s.before in
-    let b = u.before.before in
-    let n : ℕ = b.before.args.n in
-    let eu = u.unused.ensures ∙ ap (λ (r : ℕ). ones (15 - r)) u.before.get-resolution.ensures in
-    clear-answered (cellRules n) n
-    (cleared n _ _ _ _ _ b.get-base-cell.ensures eu s.marks.ensures w.low-bits.ensures c.wrapping-sub-u64.type-inv c.wrapping-sub-u64.ensures (eqb-true _ _ t))
-
-pub is_cell_spec : {M : Type 1} → statement M
-is_cell_spec =
-    tie.close
-    (tie.spec
-    get-base-cell-requires
-    get-resolution-requires
-    unused-requires
-    marks-requires
-    add-beyond
-    low-bits-requires
-    wrapping-sub-u64-requires
-    returns)
+    let n : ℕ = c.args.n in
+    let eu = c.unused-u.ensures ∙ ap (λ (r : ℕ). ones (15 - r)) c.get_resolution.ensures in
+    clear_answered (cellRules n) n
+    (cleared n _ _ _ _ _ c.get_base_cell-base.ensures eu c.marks-s.ensures c.low_bits.ensures c.wrapping_sub_u64-deleted.type_inv c.wrapping_sub_u64-deleted.ensures (eqb-true _ _ t))
