@@ -2,7 +2,7 @@
 """Brings the repository's own names in specs/ and proofs/ to snake case: a-b becomes a_b.
 
 Run once, at the top, right after the kit's port.py. Own names are the top-level definitions of the .antt files of crates/,
-and what they name inside. A goal's name (its type names a `Need-..` of the function's tie) is Rattle's and stays. A
+and what they name inside. A goal's name (its type is one of the function's) is Rattle's and stays. A
 file's tokens are changed where they are defined in it, are imported by it from a crate of the repository, or follow such
 an import's alias. Names that would fall together are printed, and nothing is written.
 """
@@ -24,18 +24,16 @@ def module(path):
     return ".".join(["Rattle"] + parts[1:])
 
 
-def is_goal(name, kind, path):
-    if not path.endswith("/Proof.antt"):
-        return False
-    return bool(re.search(r"\bNeed-|\bInv-|\bVar-", kind))
+def is_goal(kind):
+    return bool(re.search(r"\bNeed-|\bInv-|\bVar-|\bgoal\.", kind))
 
 
-def defined(path, text):
+def defined(text):
     """The own names of a file: those to be changed, and all."""
     own, every = set(), set()
     for line in text.split("\n"):
         if line.startswith(("use ", "pub use ", "--", " ", "mod ", "pub mod ")):
-            f = re.match(r"^\s+(?:let )?(" + WORD + r")\s*(?::|=)\s", line)
+            f = re.match(r"^\s+(?:let |pub |abbrev |unfoldable )*(" + WORD + r")\s*(?::|=)\s", line)
             if f and "-" in f.group(1) and "◌" not in f.group(1):
                 own.add(f.group(1))
             continue
@@ -43,7 +41,7 @@ def defined(path, text):
         if not m:
             continue
         every.add(m.group(1))
-        if "-" in m.group(1) and not is_goal(m.group(1), m.group(2), path) and "◌" not in m.group(1):
+        if "-" in m.group(1) and not is_goal(m.group(2)) and "◌" not in m.group(1):
             own.add(m.group(1))
     return own, every
 
@@ -65,7 +63,7 @@ def main():
     own, every, texts = {}, {}, {}
     for p in files():
         texts[p] = open(p, encoding="utf-8").read()
-        own[module(p)], every[module(p)] = defined(p, texts[p])
+        own[module(p)], every[module(p)] = defined(texts[p])
     for p in sorted(glob.glob("crates/*/src/*.rt")):
         texts[p] = open(p, encoding="utf-8").read()
     bad = []

@@ -11,7 +11,7 @@ use borrow.Author.Tests.{lt-ltb, ltb-true, ltb-false}
 use Rattle.entry.specs.Answers.{value_of}
 use Rattle.index.specs.Refusals.{◌when◌, Outcome, answered, refused, number_of, Met}
 use Rattle.index.proofs.Some.{both_off}
-use Rattle.index.proofs.Rules.{hit, past, none-answered, refused-met, answered-clear, answered-same}
+use Rattle.index.proofs.Rules.{hit, past, none_answered, refused_met, answered_clear, answered_same}
 use Rattle.block_entries.specs.Blocks.{block_of, filled, valuesAfter, refusalsAfter}
 use Rattle.block_entries.proofs.Fills.{neither}
 
@@ -59,7 +59,7 @@ module _ (block values refusals : List ℕ) where
   -- refusal 10 is given exactly where one is shorter, and no other is ever given
   pub short : (k : ℕ) → (block_of block values refusals ≡ refused k) ↔ ((k ≡ 10) × Short)
   short k = (
-    λ e. go (refused-met ((10 when test) ∷ []) (length block) k e),
+    λ e. go (refused_met ((10 when test) ∷ []) (length block) k e),
     λ h. hit 10 test [] (length block) (over_one _ _ _ h.1) ∙ ap refused (sym h.0),
   )
     where
@@ -70,8 +70,8 @@ module _ (block values refusals : List ℕ) where
   -- the number of elements is answered exactly where there is room in both, and no other number ever is
   pub room : (n : ℕ) → (block_of block values refusals ≡ answered n) ↔ ((n ≡ length block) × Room)
   room n = (
-    λ e. let z = both_off _ _ (answered-clear ((10 when test) ∷ []) (length block) n e).0 in (sym (answered-same ((10 when test) ∷ []) (length block) n e), (ltb-false _ _ z.0, ltb-false _ _ z.1)),
-    λ h. past 10 test [] (length block) (neither _ _ _ h.1.0 h.1.1) ∙ none-answered _ ∙ ap answered (sym h.0),
+    λ e. let z = both_off _ _ (answered_clear ((10 when test) ∷ []) (length block) n e).0 in (sym (answered_same ((10 when test) ∷ []) (length block) n e), (ltb-false _ _ z.0, ltb-false _ _ z.1)),
+    λ h. past 10 test [] (length block) (neither _ _ _ h.1.0 h.1.1) ∙ none_answered _ ∙ ap answered (sym h.0),
   )
 
   module _ (entry : ℕ → Outcome ℕ) where

@@ -13,7 +13,7 @@ use borrow.Author.Tests.{ltb-false, le-ltb}
 use Rattle.entry.specs.Answers.{value_of}
 use Rattle.index.specs.Refusals.{Outcome, answered, refused, number_of}
 use Rattle.index.proofs.Some.{both_off}
-use Rattle.index.proofs.Rules.{past, hit, none-answered}
+use Rattle.index.proofs.Rules.{past, hit, none_answered}
 use Rattle.block_entries.specs.Blocks.{block_of, filled, valuesAfter, refusalsAfter}
 
 -- the first i elements are answered, and the others are as they were
@@ -81,7 +81,7 @@ module _ (entry : ℕ → Outcome ℕ) (block v₀ r₀ : List ℕ) where
         let m = w.room in
         let n = w.room_too in
         let e : i ≡ length block = omega arith in
-        let z : block_of block v₀ r₀ ≡ answered (length block) = past _ _ _ _ (neither _ _ _ m n) ∙ none-answered _ in (
+        let z : block_of block v₀ r₀ ≡ answered (length block) = past _ _ _ _ (neither _ _ _ m n) ∙ none_answered _ in (
           sym z,
           subst (λ (o : Outcome ℕ). v ≡ filled o (λ n. value_of (entry n)) block v₀) (sym z) (w.values ∙ whole _ block v₀ i e),
           subst (λ (o : Outcome ℕ). r ≡ filled o (λ n. number_of (entry n)) block r₀) (sym z) (w.refusals ∙ whole _ block r₀ i e),

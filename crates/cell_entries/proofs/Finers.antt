@@ -12,7 +12,7 @@ use Rattle.index.specs.Refusals.{Rule, ◌when◌, answered, refused, number_of,
 use Rattle.index.specs.Check.{cellRules}
 use Rattle.index.specs.declared.Cell.{Cell}
 use Rattle.index.specs.declared.Resolution.{Resolution}
-use Rattle.index.proofs.Rules.{answered-same, answered-clear, clear_parts, cleared, early}
+use Rattle.index.proofs.Rules.{answered_same, answered_clear, clear_parts, cleared, early}
 use Rattle.index.proofs.Validity.{clear_valid}
 use Rattle.entry.specs.Rules.{resolutionRule}
 use Rattle.cell_entries.specs.Cells.{finerRules, finerOf, toldWanted}
@@ -30,8 +30,8 @@ pub record Ready (raw t c u : ℕ) : Type 0 where
 pub ready : (raw t : ℕ) (a : Wanted) (c : Cell) (u : Resolution) → a ≡ Wanted.At c u → toldWanted a ≡ finerOf raw t → Ready raw t c.0 u.0
 ready raw t a c u p q =
     let e : finerOf raw t ≡ answered (c.0, u.0) = sym q ∙ ap toldWanted p in
-    let z = answered-same (finerRules raw t) (raw, t) (c.0, u.0) e in
-    let k = answered-clear (finerRules raw t) (raw, t) (c.0, u.0) e in
+    let z = answered_same (finerRules raw t) (raw, t) (c.0, u.0) e in
+    let k = answered_clear (finerRules raw t) (raw, t) (c.0, u.0) e in
     let w = clear_parts (cellRules raw) (resolutionRule t ∷ (9 when ltb t (resOf raw)) ∷ []) k in
     record {
       cell = sym (ap (λ (x : ℕ × ℕ). x.0) z);
@@ -54,8 +54,8 @@ unwanted raw t (Wanted.Refused x) o e = sym e
 
 -- an entry whose rules begin with these
 module _ {A : Type 0} (raw t : ℕ) (more : List Rule) (b : A) where
-  pub past-finer : Clear (finerRules raw t) → judged (finerRules raw t ++ more) b ≡ judged more b
-  past-finer k = cleared (finerRules raw t) more b k
+  pub past_finer : Clear (finerRules raw t) → judged (finerRules raw t ++ more) b ≡ judged more b
+  past_finer k = cleared (finerRules raw t) more b k
 
-  pub refuse-finer : (a : Wanted) (x : ℕ) → Run.OneOf (1 ∷ []) (Declared.tag_of wanted-type.the_type a) → toldWanted a ≡ finerOf raw t → x ≡ number_of (toldWanted a) → refused x ≡ judged (finerRules raw t ++ more) b
-  refuse-finer a x o e n = ap refused n ∙ sym (early (finerRules raw t) more (raw, t) b _ (unwanted raw t a o e))
+  pub refuse_finer : (a : Wanted) (x : ℕ) → Run.OneOf (1 ∷ []) (Declared.tag_of wanted-type.the_type a) → toldWanted a ≡ finerOf raw t → x ≡ number_of (toldWanted a) → refused x ≡ judged (finerRules raw t ++ more) b
+  refuse_finer a x o e n = ap refused n ∙ sym (early (finerRules raw t) more (raw, t) b _ (unwanted raw t a o e))

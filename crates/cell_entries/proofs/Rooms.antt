@@ -5,7 +5,7 @@ use Prim.Native.Nat.{ℕ, ◌≤◌, ◌<◌}
 use lib.ListN.{length, drop}
 use borrow.Author.Tests.{lt-ltb, le-ltb}
 use Rattle.index.specs.Refusals.{Outcome, answered, refused}
-use Rattle.index.proofs.Rules.{past, hit, none-answered}
+use Rattle.index.proofs.Rules.{past, hit, none_answered}
 use Rattle.descent.specs.Descendants.{count_of}
 use Rattle.descent.specs.Positions.{listing}
 use Rattle.cell_entries.specs.Cells.{roomOf, afterwards}
@@ -22,7 +22,7 @@ module _ (n t : ℕ) (b : List ℕ) where
 
   pub room : (k : ℕ) (l : List ℕ) → k ≡ count_of n t → count_of n t ≤ length b → l ≡ listing n t ++ drop (count_of n t) b → (answered k ≡ roomOf n t (length b)) × (l ≡ afterwards (roomOf n t (length b)) n t b)
   room k l e h w =
-      let z : roomOf n t (length b) ≡ answered (count_of n t) = past _ _ _ _ (le-ltb _ _ h) ∙ none-answered _ in
+      let z : roomOf n t (length b) ≡ answered (count_of n t) = past _ _ _ _ (le-ltb _ _ h) ∙ none_answered _ in
       (ap answered e ∙ sym z, subst (λ (x : Outcome ℕ). l ≡ afterwards x n t b) (sym z) w)
 
 -- the same of other numbers that are equal, under rules that are passed

@@ -29,14 +29,14 @@ module _ (n k r : ℕ) (p : IJK) (h : r < k) (hk : k ≤ 15) (small : (s : ℕ) 
   pub point_within : Within 250000000 p
   point_within = within_more (size r) 250000000 p (omega (arith, size_small r (omega arith))) (box_within (size r) p box)
 
-  pub down-within : (o : Bool) (q : IJK) → q ≡ normal (down7 o p) → Within 999999999 q
-  down-within o q eq =
+  pub down_within : (o : Bool) (q : IJK) → q ≡ normal (down7 o p) → Within 999999999 q
+  down_within o q eq =
       subst (Within 999999999) (sym eq)
       (within_more (4 * size r) 999999999 (normal (down7 o p)) (omega (arith, size_small r (omega arith))) (box_within (4 * size r) (normal (down7 o p)) (box_normal (4 * size r) (down7 o p) (box_down o (size r) p box))))
 
-  pub next-centre : (o : Bool) (d : ℕ) (q s : IJK) → o ≡ odd (r + 1) → d ≡ digit n (r + 1) → q ≡ normal (down7 o p) → s ≡ normal (plus q (unit d)) → s ≡ centre (used n (r + 1))
+  pub next_centre : (o : Bool) (d : ℕ) (q s : IJK) → o ≡ odd (r + 1) → d ≡ digit n (r + 1) → q ≡ normal (down7 o p) → s ≡ normal (plus q (unit d)) → s ≡ centre (used n (r + 1))
   unfolding used
-  next-centre o d q s eo ed eq es =
+  next_centre o d q s eo ed eq es =
       es
       ∙ ap (λ (t : IJK). normal (plus t (unit d))) (eq ∙ ap (λ (t : IJK). normal (down7 o t)) e)
       ∙ plus_normal (down7 o (centre (used n r))) (unit d)

@@ -29,7 +29,7 @@ use Rattle.index.specs.Refusals.{Outcome, answered, refused}
 use Rattle.index.specs.Written.{Written, WithDigits}
 use Rattle.index.proofs.Runs.{run, length_used, sevens_back}
 use Rattle.index.proofs.Sum.{sum_base, sum_res, sum_low, sum_reserved, sum_mode, sum_top}
-use Rattle.index.proofs.View.{pack-valid}
+use Rattle.index.proofs.View.{pack_valid}
 use Rattle.index.proofs.Redrawn.{redrawn_pack}
 use Rattle.index.proofs.Loose.{bare}
 use Rattle.centres.specs.Centres.{StringOf, Reads}
@@ -66,8 +66,8 @@ module _ (o : Bool) (q : IJK) (s : Sized q) where
       let t = triple p.i p.j (pos 0) in
       within_more 228571430 250000000 (up7 o q) (omega arith) (normal_within 114285715 t (broad_ij 114285715 t (up7 o q) (sym (ij_normal t)) up_narrow))
 
-  pub sized-up : Sized (up7 o q)
-  sized-up =
+  pub sized_up : Sized (up7 o q)
+  sized_up =
       record {
         broad = broad_more 114285715 200000000 (up7 o q) (omega arith) up_narrow;
         within = within_more 250000000 400000000 (up7 o q) (omega arith) up_small;
@@ -144,7 +144,7 @@ onward n k p y (suc r) q d z hk g w hd e t =
       place = omega arith;
       upper = t.upper ∙ w.upper;
       rest = λ s a b. t.other s (omega arith) b (λ x. omega arith) ∙ w.rest s a b;
-      sized = sized-up o q w.sized;
+      sized = sized_up o q w.sized;
       small = λ u f x.
           w.small u (λ s a b. f s (omega arith) b ∙ t.other s (omega arith) b (λ c. omega arith))
           (subst (λ (c : ℕ). c < 7) (sym (f (suc r) (omega arith) (omega arith) ∙ t.there)) hd, x);
@@ -184,7 +184,7 @@ module _ (n k : ℕ) (hk : k ≤ 15) (e : n ≡ 2 ^ 59 + k * 2 ^ 52 + 0 * 2 ^ 45
       let f : y ≡ pack (base_of n) (used y k) = redrawn_pack n (used y k) y h (ap top_bit e ∙ sum_top k 0 (2 ^ 45 - 1) hk (omega arith) low_lt) (ap mode_of e ∙ sum_mode k 0 (2 ^ 45 - 1) hk (omega arith) low_lt) (ap reservedOf e ∙ sum_reserved k 0 (2 ^ 45 - 1) hk (omega arith) low_lt) (λ r g l. unset_seven r (omega arith) l) d in
       let f0 : y ≡ pack 0 (used y k) = f ∙ ap (λ (b : ℕ). pack b (used y k)) unset_base in
       let short : length (used y k) ≤ 15 = rw length_used hk in
-      (f0, subst Valid (sym f0) (pack-valid 0 (used y k) (bare 0 (used y k) (omega arith) short (w.small y (λ s g l. refl) tt))))
+      (f0, subst Valid (sym f0) (pack_valid 0 (used y k) (bare 0 (used y k) (omega arith) short (w.small y (λ s g l. refl) tt))))
 
   -- and the point that is left is 0
   pub found : (p : IJK) (y : ℕ) (q : IJK) → y < 2 ^ 64 → Reading n k p y 0 q → Same q (vec 0 0 0) → Reads k p (answered y)

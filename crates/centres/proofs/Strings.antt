@@ -12,7 +12,7 @@ use Rattle.index.specs.Layout.{base_of, resOf, Valid}
 use Rattle.index.specs.View.{used, pack, Fit}
 use Rattle.index.specs.Refusals.{Outcome, answered, refused}
 use Rattle.index.proofs.Runs.{length_used}
-use Rattle.index.proofs.View.{fit, pack-valid, pack_base, pack_res, pack_used}
+use Rattle.index.proofs.View.{fit, pack_valid, pack_base, pack_res, pack_used}
 use Rattle.index.proofs.Loose.{bare}
 use Rattle.centres.specs.Centres.{centreOf, StringOf, Reads}
 
@@ -41,7 +41,7 @@ found_centre r p n h a =
     let f : Fit 0 ds = bare 0 ds (omega arith) (omega arith) s.digits in
     subst (Found r p) (sym a.2)
     (record {
-      cell = pack-valid 0 ds f;
+      cell = pack_valid 0 ds f;
       base = pack_base 0 ds f;
       res = pack_res 0 ds f ∙ l;
       centre = ap centre (ap (used (pack 0 ds)) (pack_res 0 ds f) ∙ pack_used 0 ds f) ∙ sym (centre_normal ds) ∙ s.point;

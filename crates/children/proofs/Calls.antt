@@ -13,7 +13,7 @@ use mir.Facts.{to_z-of_z}
 use Rattle.index.specs.Layout.{resOf, Valid}
 use Rattle.index.specs.Refusals.{Outcome, answered, refused}
 use Rattle.index.specs.Check.{cellRules, checkOf}
-use Rattle.index.proofs.Rules.{answered-clear}
+use Rattle.index.proofs.Rules.{answered_clear}
 use Rattle.index.proofs.Validity.{clear_valid}
 use Rattle.descent.specs.Descendants.{Descendant, count_of}
 use Rattle.descent.specs.Positions.{childAt, position_of}
@@ -47,7 +47,7 @@ accepted_valid : (n : ℕ) → accepted (checkOf n) ≡ true → Valid n
 accepted_valid n e = go (checkOf n) refl e
   where
     go : (o : Outcome ℕ) → checkOf n ≡ o → accepted o ≡ true → Valid n
-    go (answered m) q e = clear_valid n (answered-clear (cellRules n) n m q)
+    go (answered m) q e = clear_valid n (answered_clear (cellRules n) n m q)
     go (refused k) q e = absurd (false≢true e)
 
 same_z : (a b : ℤ) → sameZ a b ≡ true → a ≡ b
@@ -108,14 +108,14 @@ child_call c e z = rw (e, ne_eqb c.left 0 z)
 
 module _ (c : Cursor) (n p : ℕ) (s : Spot c n p) where
   -- the cursor that is done is the same
-  pub done-cursor : c.left ≡ 0 → (z : ℤ) → z ≡ to_z w32 (of_z w32 c.skip) →
+  pub done_cursor : c.left ≡ 0 → (z : ℤ) → z ≡ to_z w32 (of_z w32 c.skip) →
       ◌≡◌ {A = Cursor} (record { own = c.own; target = c.target; number = c.number; skip = z; left = 0 }) c
-  done-cursor e z q = same_cursor _ _ refl refl refl (q ∙ to_z-of_z (subst (SFits w32) (sym s.skip) (skip_fits n c.number))) (sym e)
+  done_cursor e z q = same_cursor _ _ refl refl refl (q ∙ to_z-of_z (subst (SFits w32) (sym s.skip) (skip_fits n c.number))) (sym e)
 
   -- the cursor after the last child
-  pub last-cursor : c.left ≡ 1 → (z : ℤ) → z ≡ to_z w32 (of_z w32 c.skip) →
+  pub last_cursor : c.left ≡ 1 → (z : ℤ) → z ≡ to_z w32 (of_z w32 c.skip) →
       ◌≡◌ {A = Cursor} (record { own = c.own; target = c.target; number = c.number; skip = z; left = 0 }) (cursorAt n c.target (p + 1))
-  last-cursor e z q =
+  last_cursor e z q =
       let t : ℕ = c.target in
       let m : p + c.left ≡ count_of n t = s.more (λ z. omega arith) in
       let k : count_of n t - 1 ≡ p = omega arith in
@@ -134,20 +134,20 @@ module _ (c : Cursor) (n p : ℕ) (s : Spot c n p) where
 
     pub asked : Inner c.number (to_z w32 (of_z w32 c.skip)) c.own × (c.target ≡ resOf c.number)
     asked =
-        let i = moves.inner-child n c.target s.fits s.valid s.low s.high p further in
+        let i = moves.inner_child n c.target s.fits s.valid s.low s.high p further in
         let j : Inner c.number (skipOf n c.number) (resOf n) = subst (λ (y : ℕ). Inner y (skipOf n y) (resOf n)) (sym s.here) i in (
           subst (λ (z : ℤ). Inner c.number z c.own) (sym read) (subst (λ (o : ℕ). Inner c.number (skipOf n c.number) o) s.own j),
           sym (ap resOf s.here ∙ child_res n c.target s.fits s.valid s.low s.high p s.under),
         )
 
     -- the cursor after another one
-    pub more-cursor : (y : ℕ) (k : ℤ) → Following c.number c.own y k → (z : ℤ) → z ≡ to_z w32 (of_z w32 k) →
+    pub more_cursor : (y : ℕ) (k : ℤ) → Following c.number c.own y k → (z : ℤ) → z ≡ to_z w32 (of_z w32 k) →
         ◌≡◌ {A = Cursor} (record { own = c.own; target = c.target; number = y; skip = z; left = c.left - 1 }) (cursorAt n c.target (p + 1))
-    more-cursor y k a z q =
+    more_cursor y k a z q =
         let t : ℕ = c.target in
         let m = s.more (λ z. omega arith) in
         let b : Following (childAt n t p) (resOf n) y k = subst (λ (x : ℕ). Following x (resOf n) y k) s.here (subst (λ (o : ℕ). Following c.number o y k) (sym s.own) a) in
-        let w = moves.following-child n t s.fits s.valid s.low s.high p further y k b in
+        let w = moves.following_child n t s.fits s.valid s.low s.high p further y k b in
         let g : to_z w32 (of_z w32 k) ≡ skipOf n (childAt n t (suc p)) = to_z-of_z (subst (SFits w32) (sym w.1) (skip_fits n (childAt n t (suc p)))) ∙ w.1 in
         same_cursor _ _ (sym s.own) refl w.0 (q ∙ g) (omega arith)
         ∙ sym (cursor_at n t (suc p) further) ∙ ap (cursorAt n t) (sym (add-one p))

@@ -61,12 +61,12 @@ module _ (y own : ℕ) (h64 : y < 2 ^ 64) (v : Valid y) (l : own ≤ resOf y) wh
       t_is : t ≡ counted n y left
       t_is = e ∙ rw (p_is, total_is)
 
-      pub not-counted : t ≡ false → false ≡ placed n y left skip
-      not-counted g = rw (sym t_is ∙ g)
+      pub not_counted : t ≡ false → false ≡ placed n y left skip
+      not_counted g = rw (sym t_is ∙ g)
 
-      pub all-counted : t ≡ true → (z : ℕ) (k : ℤ) (r : Bool) → SFits w32 skip → z ≡ lead (used number target) → k ≡ cond f (pos z) (negsuc 0) →
+      pub all_counted : t ≡ true → (z : ℕ) (k : ℤ) (r : Bool) → SFits w32 skip → z ≡ lead (used number target) → k ≡ cond f (pos z) (negsuc 0) →
           r ≡ sameZ (to_z w32 (of_z w32 skip)) (to_z w32 (of_z w32 k)) → r ≡ placed n y left skip
-      all-counted g z k r fs ez ek er =
+      all_counted g z k r fs ez ek er =
           let q : k ≡ skipOf n y = ek ∙ rw (f_is, ez, en, et, et') in
           rw (sym t_is ∙ g)
           (er ∙ ap (λ (i : ℤ). sameZ i (to_z w32 (of_z w32 k))) (to_z-of_z fs) ∙ ap (sameZ skip) (to_z-of_z (subst (SFits w32) (sym q) (skip_fits n y)) ∙ q))
@@ -82,15 +82,15 @@ module _ (c : Cursor) where
     yes_cell : accepted (checkOf c.number) ≡ true
     yes_cell = rw (valid_accepted c.number v)
 
-    pub other-res : (resOf c.number ≡ c.target → ⊥) → false ≡ legal c
-    other-res h = rw (yes_cell, ne_eqb (resOf c.number) c.target h)
+    pub other_res : (resOf c.number ≡ c.target → ⊥) → false ≡ legal c
+    other_res h = rw (yes_cell, ne_eqb (resOf c.number) c.target h)
 
     module _ (e : resOf c.number ≡ c.target) where
       same_res : eqb (resOf c.number) c.target ≡ true
       same_res = eq-eqb (resOf c.number) c.target e
 
-      pub too-coarse : c.target < c.own → false ≡ legal c
-      too-coarse h = rw (yes_cell, same_res, lt-leb c.own c.target h)
+      pub too_coarse : c.target < c.own → false ≡ legal c
+      too_coarse h = rw (yes_cell, same_res, lt-leb c.own c.target h)
 
-      pub well-placed : c.own ≤ c.target → (b : Bool) → b ≡ placed (ancestorOf c.number c.own) c.number c.left c.skip → b ≡ legal c
-      well-placed h b q = rw (yes_cell, same_res, le-leb c.own c.target h) q
+      pub well_placed : c.own ≤ c.target → (b : Bool) → b ≡ placed (ancestorOf c.number c.own) c.number c.left c.skip → b ≡ legal c
+      well_placed h b q = rw (yes_cell, same_res, le-leb c.own c.target h) q

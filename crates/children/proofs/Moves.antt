@@ -22,8 +22,8 @@ use Rattle.descent.specs.Positions.{below, childAt, position_of}
 use Rattle.children.specs.Skips.{lead, skipOf, Inner, Following}
 use Rattle.children.proofs.Carry.{octs, carried, fallen, Advanced}
 use Rattle.descent.proofs.Below.{length_below, digits_below, first_zero}
-use Rattle.descent.proofs.Start.{child_fits, child_valid, child_res, child_used, child-sum, some_child}
-use Rattle.descent.proofs.Exact.{and_zero, position-child}
+use Rattle.descent.proofs.Start.{child_fits, child_valid, child_res, child_used, child_sum, some_child}
+use Rattle.descent.proofs.Exact.{and_zero, position_child}
 use Rattle.descent.proofs.Ancestors.{own_is, owner_fits, owner_valid, owner_low, among_children, ancestor_child}
 use Rattle.children.proofs.Carry.{mark, step, lead_le, lead_none, lead_append}
 
@@ -52,14 +52,14 @@ module _ (n t : ℕ) (h64 : n < 2 ^ 64) (v : Valid n) (lo : resOf n ≤ t) (hi :
   abbrev m : ℕ
   m = t - resOf n
 
-  pub child-octs : (p : ℕ) → p < count_of n t → octs m (childAt n t p / 8 ^ (15 - t)) ≡ below f m p
-  child-octs p hp =
+  pub child_octs : (p : ℕ) → p < count_of n t → octs m (childAt n t p / 8 ^ (15 - t)) ≡ below f m p
+  child_octs p hp =
       let y : ℕ = childAt n t p in
       let w : octs t (y / 8 ^ (15 - t)) ≡ below f m p ++ used n (resOf n) = sym (used_octs y t hi) ∙ child_used n t h64 v lo hi p hp in
       subst (λ (k : ℕ). octs k (y / 8 ^ (15 - t)) ≡ below f m p) (length_below f m p) (octs_front (below f m p) (used n (resOf n)) t (y / 8 ^ (15 - t)) w)
 
-  pub child-skip : (p : ℕ) → p < count_of n t → skipOf n (childAt n t p) ≡ mark f (resOf n) (below f m p)
-  child-skip p hp = rw (child_res n t h64 v lo hi p hp, child_used n t h64 v lo hi p hp) (go f refl (below f m p))
+  pub child_skip : (p : ℕ) → p < count_of n t → skipOf n (childAt n t p) ≡ mark f (resOf n) (below f m p)
+  child_skip p hp = rw (child_res n t h64 v lo hi p hp, child_used n t h64 v lo hi p hp) (go f refl (below f m p))
     where
       go : (b : Bool) → f ≡ b → (xs : List ℕ) → cond b (pos (lead (xs ++ used n (resOf n)))) (negsuc 0) ≡ mark b (resOf n) xs
       go false e xs = refl
@@ -68,7 +68,7 @@ module _ (n t : ℕ) (h64 : n < 2 ^ 64) (v : Valid n) (lo : resOf n ≤ t) (hi :
           ap pos (lead_append xs (used n (resOf n)) z ∙ rw (length_used n (resOf n)))
 
   pub first_skip : skipOf n (childAt n t 0) ≡ cond f (pos t) (negsuc 0)
-  first_skip = child-skip 0 (some_child n t h64 v lo hi) ∙ go f
+  first_skip = child_skip 0 (some_child n t h64 v lo hi) ∙ go f
     where
       go : (b : Bool) → mark b (resOf n) (below b m 0) ≡ cond b (pos t) (negsuc 0)
       go false = refl
@@ -76,18 +76,18 @@ module _ (n t : ℕ) (h64 : n < 2 ^ 64) (v : Valid n) (lo : resOf n ≤ t) (hi :
 
   -- what `advance` asks
   pub asked : (p : ℕ) → p < count_of n t → (resOf n ≤ t) × (t ≤ 15) × (childAt n t p < 2 ^ 60) × Digits (octs (t - resOf n) (childAt n t p / 8 ^ (15 - t)))
-  asked p hp = (lo, hi, child_fits n t h64 v lo hi p hp, subst Digits (sym (child-octs p hp)) (digits_below f m p))
+  asked p hp = (lo, hi, child_fits n t h64 v lo hi p hp, subst Digits (sym (child_octs p hp)) (digits_below f m p))
 
   pub moved : (p y : ℕ) (s : ℤ) → suc p < count_of n t → Advanced (childAt n t p) (skipOf n (childAt n t p)) (resOf n) t y s → (y ≡ childAt n t (suc p)) × (s ≡ skipOf n (childAt n t (suc p)))
   moved p y s h a =
       let hp : p < count_of n t = omega arith in
       let u : ℕ = 8 ^ (15 - t) in
       let w = step f (resOf n) m p h in
-      let c : carried (skipOf n (childAt n t p)) (resOf n) (octs m (childAt n t p / u)) ≡ below f m (suc p) = rw (child-skip p hp, child-octs p hp) w.digits in
-      let g : fallen (skipOf n (childAt n t p)) (resOf n) (octs m (childAt n t p / u)) ≡ mark f (resOf n) (below f m (suc p)) = rw (child-skip p hp, child-octs p hp) w.skip in
-      let d : y + u * octal (below f m p) ≡ childAt n t p + u * octal (below f m (suc p)) = rw (c, child-octs p hp) at a.digits in (
-        lin y (childAt n t p) (childAt n t (suc p)) (u * octal (below f m p)) (u * octal (below f m (suc p))) (childAt n t 0) d (child-sum n t h64 v lo hi p hp) (child-sum n t h64 v lo hi (suc p) h),
-        a.skip ∙ g ∙ sym (child-skip (suc p) h),
+      let c : carried (skipOf n (childAt n t p)) (resOf n) (octs m (childAt n t p / u)) ≡ below f m (suc p) = rw (child_skip p hp, child_octs p hp) w.digits in
+      let g : fallen (skipOf n (childAt n t p)) (resOf n) (octs m (childAt n t p / u)) ≡ mark f (resOf n) (below f m (suc p)) = rw (child_skip p hp, child_octs p hp) w.skip in
+      let d : y + u * octal (below f m p) ≡ childAt n t p + u * octal (below f m (suc p)) = rw (c, child_octs p hp) at a.digits in (
+        lin y (childAt n t p) (childAt n t (suc p)) (u * octal (below f m p)) (u * octal (below f m (suc p))) (childAt n t 0) d (child_sum n t h64 v lo hi p hp) (child_sum n t h64 v lo hi (suc p) h),
+        a.skip ∙ g ∙ sym (child_skip (suc p) h),
       )
     where
       lin : (r y z x x' s : ℕ) → r + x ≡ y + x' → s + x ≡ y → s + x' ≡ z → r ≡ z
@@ -107,8 +107,8 @@ module _ (y own : ℕ) (z : ℤ) (h64 : y < 2 ^ 64) (i : Inner y z own) where
   same_own : resOf n ≡ own
   same_own = own_is y own h64 i.valid i.low
 
-  pub inner-asked : (target : ℕ) → target ≡ resOf y → (own ≤ target) × (target ≤ 15) × (y < 2 ^ 60) × Digits (octs (target - own) (y / 8 ^ (15 - target)))
-  inner-asked target e =
+  pub inner_asked : (target : ℕ) → target ≡ resOf y → (own ≤ target) × (target ≤ 15) × (y < 2 ^ 60) × Digits (octs (target - own) (y / 8 ^ (15 - target)))
+  inner_asked target e =
       let a = asked n (resOf y) (owner_fits y own h64 i.valid i.low) (owner_valid y own h64 i.valid i.low) (owner_low y own h64 i.valid i.low) (omega arith) p (among_children y own h64 i.valid i.low).0 in
       let b : (own ≤ resOf y) × (resOf y ≤ 15) × (y < 2 ^ 60) × Digits (octs (resOf y - own) (y / 8 ^ (15 - resOf y))) =
       subst (λ (o : ℕ). (o ≤ resOf y) × (resOf y ≤ 15) × (y < 2 ^ 60) × Digits (octs (resOf y - o) (y / 8 ^ (15 - resOf y)))) same_own
@@ -138,10 +138,10 @@ module _ (n t : ℕ) (h64 : n < 2 ^ 64) (v : Valid n) (lo : resOf n ≤ t) (hi :
   fine = child_res n t h64 v lo hi p (omega arith)
 
   spot : position_of (ancestorOf y (resOf n)) y ≡ p
-  spot = ap (λ (m : ℕ). position_of m y) owner ∙ position-child n t h64 v lo hi p (omega arith)
+  spot = ap (λ (m : ℕ). position_of m y) owner ∙ position_child n t h64 v lo hi p (omega arith)
 
-  pub inner-child : Inner y (skipOf n y) (resOf n)
-  inner-child =
+  pub inner_child : Inner y (skipOf n y) (resOf n)
+  inner_child =
       record {
         valid = child_valid n t h64 v lo hi p (omega arith);
         low = rw fine lo;
@@ -149,8 +149,8 @@ module _ (n t : ℕ) (h64 : n < 2 ^ 64) (v : Valid n) (lo : resOf n ≤ t) (hi :
         skip = ap (λ (m : ℕ). skipOf m y) (sym owner);
       }
 
-  pub following-child : (x : ℕ) (s : ℤ) → Following y (resOf n) x s → (x ≡ childAt n t (suc p)) × (s ≡ skipOf n (childAt n t (suc p)))
-  following-child x s f =
+  pub following_child : (x : ℕ) (s : ℤ) → Following y (resOf n) x s → (x ≡ childAt n t (suc p)) × (s ≡ skipOf n (childAt n t (suc p)))
+  following_child x s f =
       let e : x ≡ childAt n t (suc p) =
       f.number ∙ ap (λ (m : ℕ). childAt m (resOf y) (position_of (ancestorOf y (resOf n)) y + 1)) owner
       ∙ ap (λ (k : ℕ). childAt n k (position_of (ancestorOf y (resOf n)) y + 1)) fine

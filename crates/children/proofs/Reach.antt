@@ -23,7 +23,7 @@ use Rattle.children.specs.Skips.{sameZ}
 use Rattle.children.specs.declared.children.Cursor.{Cursor}
 use Rattle.children.specs.declared.children.Given.TheVariants.{Child, Done, Refused}
 use Rattle.descent.proofs.Start.{some_child, child_valid, child_res}
-use Rattle.descent.proofs.Exact.{position-child}
+use Rattle.descent.proofs.Exact.{position_child}
 use Rattle.descent.proofs.Whole.{listing_at}
 use Rattle.descent.proofs.Ancestors.{ancestor_child}
 use Rattle.children.proofs.Stands.{same_cursor, cursor_at, cursor_end}
@@ -42,15 +42,15 @@ counts l p t f g =
     (eq-zero-or-pos l)
 
 module _ (c : Cursor) (n p : ℕ) (s : Spot c n p) where
-  pub spot-owner : ownerOf c ≡ n
-  spot-owner =
+  pub spot_owner : ownerOf c ≡ n
+  spot_owner =
       ap (λ (y : ℕ). ancestorOf y c.own) s.here ∙ ap (ancestorOf (childAt n c.target p)) (sym s.own)
       ∙ ancestor_child n c.target s.fits s.valid s.low s.high p s.under
 
-  pub spot-position : position_of (ownerOf c) c.number ≡ p
-  spot-position =
-      ap (λ (m : ℕ). position_of m c.number) spot-owner ∙ ap (position_of n) s.here
-      ∙ position-child n c.target s.fits s.valid s.low s.high p s.under
+  pub spot_position : position_of (ownerOf c) c.number ≡ p
+  spot_position =
+      ap (λ (m : ℕ). position_of m c.number) spot_owner ∙ ap (position_of n) s.here
+      ∙ position_child n c.target s.fits s.valid s.low s.high p s.under
 
   fine : resOf c.number ≡ c.target
   fine = ap resOf s.here ∙ child_res n c.target s.fits s.valid s.low s.high p s.under
@@ -59,16 +59,16 @@ module _ (c : Cursor) (n p : ℕ) (s : Spot c n p) where
   good = subst Valid (sym s.here) (child_valid n c.target s.fits s.valid s.low s.high p s.under)
 
   total : count_of (ownerOf c) (resOf c.number) ≡ count_of n c.target
-  total = ap (λ (m : ℕ). count_of m (resOf c.number)) spot-owner ∙ ap (count_of n) fine
+  total = ap (λ (m : ℕ). count_of m (resOf c.number)) spot_owner ∙ ap (count_of n) fine
 
-  pub spot-legal : legal c ≡ true
-  spot-legal =
+  pub spot_legal : legal c ≡ true
+  spot_legal =
       and_true (ap accepted (valid_accepted c.number good))
       (and_true (eq-eqb (resOf c.number) c.target fine)
       (and_true (le-leb c.own c.target (let l = s.low in omega (arith, s.own)))
       (and_true
-      (counts c.left (position_of (ownerOf c) c.number) (count_of (ownerOf c) (resOf c.number)) (λ z. omega (arith, spot-position, total, s.last z)) (λ z. omega (arith, spot-position, total, s.more z)))
-      (ap (sameZ c.skip) (ap (λ (m : ℕ). skipOf m c.number) spot-owner ∙ sym s.skip) ∙ same_refl c.skip))))
+      (counts c.left (position_of (ownerOf c) c.number) (count_of (ownerOf c) (resOf c.number)) (λ z. omega (arith, spot_position, total, s.last z)) (λ z. omega (arith, spot_position, total, s.more z)))
+      (ap (sameZ c.skip) (ap (λ (m : ℕ). skipOf m c.number) spot_owner ∙ sym s.skip) ∙ same_refl c.skip))))
 
 module _ (n t : ℕ) (h64 : n < 2 ^ 64) (v : Valid n) (lo : resOf n ≤ t) (hi : t ≤ 15) where
   stands : (k : ℕ) → k < count_of n t → Spot (cursorAt n t k) n k
@@ -83,35 +83,35 @@ module _ (n t : ℕ) (h64 : n < 2 ^ 64) (v : Valid n) (lo : resOf n ≤ t) (hi :
       (record { fits = h64; valid = v; own = refl; low = lo; high = hi; under = omega arith; here = refl; skip = refl; last = λ z. omega arith; more = λ z. absurd (z refl) })
 
   -- where one is left a call gives the child at k; then Done, with the cursor unchanged
-  pub next-child : (k : ℕ) → k < count_of n t → next_of (cursorAt n t k) ≡ Child (childAt n t k) (cursorAt n t (suc k))
-  next-child k h =
+  pub next_child : (k : ℕ) → k < count_of n t → next_of (cursorAt n t k) ≡ Child (childAt n t k) (cursorAt n t (suc k))
+  next_child k h =
       let c : Cursor = cursorAt n t k in
       let s = stands k h in
       let e = cursor_at n t k h in
       let d : cursorAt n t (suc k) ≡ cursorAt (ownerOf c) c.target (position_of (ownerOf c) c.number + 1) =
-      ap (cursorAt n t) (sym (add-one k) ∙ ap (λ (i : ℕ). i + 1) (sym (spot-position c n k s)))
-      ∙ ap (λ (m : ℕ). cursorAt m t (position_of (ownerOf c) c.number + 1)) (sym (spot-owner c n k s))
+      ap (cursorAt n t) (sym (add-one k) ∙ ap (λ (i : ℕ). i + 1) (sym (spot_position c n k s)))
+      ∙ ap (λ (m : ℕ). cursorAt m t (position_of (ownerOf c) c.number + 1)) (sym (spot_owner c n k s))
       ∙ ap (λ (x : Cursor). cursorAt (ownerOf c) x.target (position_of (ownerOf c) c.number + 1)) (sym e) in
-      sym (ap (λ (x : Cursor). Child x.number (cursorAt n t (suc k))) (sym e) ∙ child_given c (cursorAt n t (suc k)) (spot-legal c n k s) (λ z. omega (arith, ap (λ (x : Cursor). x.left) e)) d)
+      sym (ap (λ (x : Cursor). Child x.number (cursorAt n t (suc k))) (sym e) ∙ child_given c (cursorAt n t (suc k)) (spot_legal c n k s) (λ z. omega (arith, ap (λ (x : Cursor). x.left) e)) d)
 
-  pub next-done : (k : ℕ) → count_of n t ≤ k → next_of (cursorAt n t k) ≡ Done (cursorAt n t k)
-  next-done k h =
+  pub next_done : (k : ℕ) → count_of n t ≤ k → next_of (cursorAt n t k) ≡ Done (cursorAt n t k)
+  next_done k h =
       let c : Cursor = cursorAt n t k in
-      sym (done_call c (spot-legal c n (count_of n t - 1) (ended k h)) (ap (λ (x : Cursor). x.left) (cursor_end n t k h)))
+      sym (done_call c (spot_legal c n (count_of n t - 1) (ended k h)) (ap (λ (x : Cursor). x.left) (cursor_end n t k h)))
 
-  pub after-calls : (k : ℕ) → after k (cursorAt n t 0) ≡ cursorAt n t k
+  pub after_calls : (k : ℕ) → after k (cursorAt n t 0) ≡ cursorAt n t k
   unfolding after
-  after-calls zero = refl
-  after-calls (suc k) =
-      ap (λ (c : Cursor). handed (next_of c)) (after-calls k)
-      ∙ elim (dec_le (count_of n t) k) [ yes h ↦ ap handed (next-done k h) ∙ cursor_end n t k h ∙ sym (cursor_end n t (suc k) (omega arith)) | no h ↦ ap handed (next-child k (omega arith)) ]
+  after_calls zero = refl
+  after_calls (suc k) =
+      ap (λ (c : Cursor). handed (next_of c)) (after_calls k)
+      ∙ elim (dec_le (count_of n t) k) [ yes h ↦ ap handed (next_done k h) ∙ cursor_end n t k h ∙ sym (cursor_end n t (suc k) (omega arith)) | no h ↦ ap handed (next_child k (omega arith)) ]
 
   -- the k-th call gives element k of the listing, then Done
-  pub call-child : (k : ℕ) → k < count_of n t → next_of (after k (cursorAt n t 0)) ≡ Child (get_or (listing n t) k 0) (after (suc k) (cursorAt n t 0))
-  call-child k h = rw (after-calls k, after-calls (suc k), listing_at n t k h) (next-child k h)
+  pub call_child : (k : ℕ) → k < count_of n t → next_of (after k (cursorAt n t 0)) ≡ Child (get_or (listing n t) k 0) (after (suc k) (cursorAt n t 0))
+  call_child k h = rw (after_calls k, after_calls (suc k), listing_at n t k h) (next_child k h)
 
-  pub call-done : (k : ℕ) → count_of n t ≤ k → next_of (after k (cursorAt n t 0)) ≡ Done (after k (cursorAt n t 0))
-  call-done k h = rw (after-calls k) (next-done k h)
+  pub call_done : (k : ℕ) → count_of n t ≤ k → next_of (after k (cursorAt n t 0)) ≡ Done (after k (cursorAt n t 0))
+  call_done k h = rw (after_calls k) (next_done k h)
 
 -- the cursors that are accepted
 pub made_legal : (c : Cursor) → Made c → legal c ≡ true
@@ -119,10 +119,10 @@ made_legal c m =
     let n : ℕ = m.cell in
     let t : ℕ = m.finer in
     let k : ℕ = m.calls in
-    ap legal (m.same ∙ after-calls n t m.fits m.valid m.low m.high k)
+    ap legal (m.same ∙ after_calls n t m.fits m.valid m.low m.high k)
     ∙ elim (dec_le (count_of n t) k) [
-      | yes h ↦ spot-legal (cursorAt n t k) n (count_of n t - 1) (ended n t m.fits m.valid m.low m.high k h)
-      | no h ↦ spot-legal (cursorAt n t k) n k (stands n t m.fits m.valid m.low m.high k (omega arith))
+      | yes h ↦ spot_legal (cursorAt n t k) n (count_of n t - 1) (ended n t m.fits m.valid m.low m.high k h)
+      | no h ↦ spot_legal (cursorAt n t k) n k (stands n t m.fits m.valid m.low m.high k (omega arith))
     ]
 
 pub legal_made : (c : Cursor) → c.number < 2 ^ 64 → legal c ≡ true → Made c
@@ -132,7 +132,7 @@ legal_made c h e =
     let s : Spot c n p = legal_spot c h e in
     let t : ℕ = c.target in
     let k : ℕ = count_of n t - c.left in
-    record { cell = n; finer = t; calls = k; fits = s.fits; valid = s.valid; low = s.low; high = s.high; same = found n p s ∙ sym (after-calls n t s.fits s.valid s.low s.high k) }
+    record { cell = n; finer = t; calls = k; fits = s.fits; valid = s.valid; low = s.low; high = s.high; same = found n p s ∙ sym (after_calls n t s.fits s.valid s.low s.high k) }
   where
     found : (n p : ℕ) → Spot c n p → c ≡ cursorAt n c.target (count_of n c.target - c.left)
     found n p s =

@@ -50,8 +50,8 @@ module _ (x : ℕ) (z : ℤ) (own target a r : ℕ) (k : Kept x z own target a r
   end h = let d = odo.done z own a (8 ^ (15 - r)) (r - own) K L (omega arith) sum in closing a z d.0 d.1
 
   module _ (h : own < r) (one : ℕ) (eu : one ≡ 8 ^ (15 - r)) where
-    pub one-small : one * 8 ≤ 2 ^ 45
-    one-small =
+    pub one_small : one * 8 ≤ 2 ^ 45
+    one_small =
         let t = k.high in
         let q : suc (15 - r) ≤ 15 = omega arith in
         let m : 8 ^ suc (15 - r) ≤ 8 ^ 15 = pow-le-pow_right (omega arith) q in

@@ -31,8 +31,8 @@ and_zero true x e = (refl, eqb-true x 0 e)
 and_zero false x e = (e, absurd (false≢true e))
 
 module _ (n t : ℕ) (h64 : n < 2 ^ 64) (v : Valid n) (lo : resOf n ≤ t) (hi : t ≤ 15) where
-  pub child-lead : (p : ℕ) → p < count_of n t → used (childAt n t p) (resOf n) ≡ used n (resOf n)
-  child-lead p hp =
+  pub child_lead : (p : ℕ) → p < count_of n t → used (childAt n t p) (resOf n) ≡ used n (resOf n)
+  child_lead p hp =
       let xs : List ℕ = below (pentagon n) (t - resOf n) p in
       used_tail xs (used n (resOf n)) (childAt n t p) t (resOf n)
       (rw (length_below (pentagon n) (t - resOf n) p) (omega arith)) (child_used n t h64 v lo hi p hp)
@@ -43,7 +43,7 @@ module _ (n t : ℕ) (h64 : n < 2 ^ 64) (v : Valid n) (lo : resOf n ≤ t) (hi :
         fits = let l = child_fits n t h64 v lo hi p hp in omega arith;
         fine = child_res n t h64 v lo hi p hp;
         base = child_base n t h64 v lo hi p hp;
-        lead = used_digit (childAt n t p) n (resOf n) (child-lead p hp);
+        lead = used_digit (childAt n t p) n (resOf n) (child_lead p hp);
         valid = child_valid n t h64 v lo hi p hp;
       }
 
@@ -65,9 +65,9 @@ module _ (n t : ℕ) (h64 : n < 2 ^ 64) (v : Valid n) (lo : resOf n ≤ t) (hi :
       ap (used y) (d.fine ∙ e) ∙ used_seg y k (t - k) ∙ ap (λ (z : List ℕ). seg y k (t - k) ++ z) (digit_used y n k d.lead)
 
   -- they are those of a position
-  pub digits-back : (y : ℕ) → Descendant n t y → let xs = seg y (resOf n) (t - resOf n) in
+  pub digits_back : (y : ℕ) → Descendant n t y → let xs = seg y (resOf n) (t - resOf n) in
       (below (pentagon n) (t - resOf n) (rank (pentagon n) xs) ≡ xs) × (rank (pentagon n) xs < count_of n t)
-  digits-back y d =
+  digits_back y d =
       let k : ℕ = resOf n in
       let m : ℕ = t - k in
       let xs : List ℕ = seg y k m in
@@ -87,12 +87,12 @@ module _ (n t : ℕ) (h64 : n < 2 ^ 64) (v : Valid n) (lo : resOf n ≤ t) (hi :
   pub complete : (y : ℕ) → Descendant n t y → (position_of n y < count_of n t) × (childAt n t (position_of n y) ≡ y)
   unfolding childAt
   complete y d =
-      let r = digits-back y d in
+      let r = digits_back y d in
       rw d.fine (r.1, rw (r.0, ← d.base, ← (split y d)) (packed y d.fits d.valid))
 
   -- position of the child at p is p
-  pub position-child : (p : ℕ) → p < count_of n t → position_of n (childAt n t p) ≡ p
-  position-child p hp =
+  pub position_child : (p : ℕ) → p < count_of n t → position_of n (childAt n t p) ≡ p
+  position_child p hp =
       let q : ℕ = position_of n (childAt n t p) in
       let c = complete (childAt n t p) (sound p hp) in
       level q p c.0 hp c.1

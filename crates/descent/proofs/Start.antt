@@ -11,7 +11,7 @@ use lib.ListN.{length, length-append}
 use Rattle.index.specs.Layout.{resOf, base_of, Valid}
 use Rattle.index.specs.View.{used, octal, pack, first, Fit}
 use Rattle.index.proofs.Runs.{eights_pos, length_used}
-use Rattle.index.proofs.View.{packed, fit, first_used, pack_fits, pack-valid, pack_res, pack_base, pack_used}
+use Rattle.index.proofs.View.{packed, fit, first_used, pack_fits, pack_valid, pack_res, pack_base, pack_used}
 use Rattle.descent.specs.Descendants.{pentagon, count_of}
 use Rattle.descent.specs.Positions.{below, childAt}
 use Rattle.descent.proofs.Strings.{octal_append}
@@ -42,8 +42,8 @@ module _ (n t : ℕ) (h64 : n < 2 ^ 64) (v : Valid n) (lo : resOf n ≤ t) (hi :
   pub some_child : 0 < count_of n t
   some_child = count_pos f m
 
-  pub unit-room : 8 ^ (15 - t) * 8 ^ m ≤ 2 ^ 45
-  unit-room =
+  pub unit_room : 8 ^ (15 - t) * 8 ^ m ≤ 2 ^ 45
+  unit_room =
       let q : 15 - t + m ≤ 15 = omega arith in
       let e : 8 ^ (15 - t + m) ≤ 8 ^ 15 = pow-le-pow_right (omega arith) q in
       rw (pow-add 8 (15 - t) m) at e
@@ -52,8 +52,8 @@ module _ (n t : ℕ) (h64 : n < 2 ^ 64) (v : Valid n) (lo : resOf n ≤ t) (hi :
     abbrev ds : List ℕ
     ds = below f m p ++ used n (resOf n)
 
-    pub fit-here : Fit (base_of n) ds
-    fit-here =
+    pub fit_here : Fit (base_of n) ds
+    fit_here =
         fit_child f (base_of n) m p (used n (resOf n)) (fit n v) (rw (first_used n (resOf n)))
         (rw (length_used n (resOf n)) (omega arith)) hp
 
@@ -62,23 +62,23 @@ module _ (n t : ℕ) (h64 : n < 2 ^ 64) (v : Valid n) (lo : resOf n ≤ t) (hi :
 
     pub child_fits : childAt n t p < 2 ^ 60
     unfolding childAt
-    child_fits = pack_fits _ _ fit-here
+    child_fits = pack_fits _ _ fit_here
 
     pub child_valid : Valid (childAt n t p)
     unfolding childAt
-    child_valid = pack-valid _ _ fit-here
+    child_valid = pack_valid _ _ fit_here
 
     pub child_res : resOf (childAt n t p) ≡ t
     unfolding childAt
-    child_res = pack_res _ _ fit-here ∙ long
+    child_res = pack_res _ _ fit_here ∙ long
 
     pub child_base : base_of (childAt n t p) ≡ base_of n
     unfolding childAt
-    child_base = pack_base _ _ fit-here
+    child_base = pack_base _ _ fit_here
 
     pub child_used : used (childAt n t p) t ≡ ds
     unfolding childAt
-    child_used = subst (λ (k : ℕ). used (pack (base_of n) ds) k ≡ ds) long (pack_used _ _ fit-here)
+    child_used = subst (λ (k : ℕ). used (pack (base_of n) ds) k ≡ ds) long (pack_used _ _ fit_here)
 
     pub pos_fits : p < 2 ^ 62
     pos_fits = omega (arith, count_small f m (omega arith))
@@ -117,7 +117,7 @@ module _ (n t : ℕ) (h64 : n < 2 ^ 64) (v : Valid n) (lo : resOf n ≤ t) (hi :
       plain a u x z e h = omega (arith, rw e at h)
 
   -- the child at p by place value from the first one
-  pub child-sum : (p : ℕ) → p < count_of n t → childAt n t 0 + 8 ^ (15 - t) * octal (below f m p) ≡ childAt n t p
-  child-sum p hp =
+  pub child_sum : (p : ℕ) → p < count_of n t → childAt n t 0 + 8 ^ (15 - t) * octal (below f m p) ≡ childAt n t p
+  child_sum p hp =
       let o = opened (resOf n) (8 ^ (15 - t)) (8 ^ (15 - resOf n)) refl refl refl in
       ap (λ (z : ℕ). z + 8 ^ (15 - t) * octal (below f m p)) (sym o.first) ∙ total p hp (resOf n) (8 ^ (15 - t)) (8 ^ (15 - resOf n)) refl refl refl

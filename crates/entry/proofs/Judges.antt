@@ -11,7 +11,7 @@ use lib.Dec.{T, eqb, ltb}
 use borrow.Author.Tests.{ltb-false, eqb-false}
 use Rattle.index.specs.Refusals.{Rule, answered, refused, judged}
 use Rattle.index.proofs.Some.{both_off}
-use Rattle.index.proofs.Rules.{past, hit, none-answered}
+use Rattle.index.proofs.Rules.{past, hit, none_answered}
 use Rattle.plane.specs.Ranges.{point_in_range, Within}
 use Rattle.plane.proofs.Bounds.{in_range_within}
 use Rattle.plane.specs.declared.ijk.IJK.{IJK}
@@ -47,8 +47,8 @@ module _ (d : ℕ) where
   pub to : (a : Heading) (x : Direction) → a ≡ Heading.To x → a ≡ headed (ltb 6 d) → (x.0 ≡ d) × (d < 7) × (ltb 6 d ≡ false)
   to a x p q = let r = passed (ltb 6 d) a x p q in (r.0, omega (arith, ltb-false 6 d r.1), r.1)
 
-  pub to-onward : (a : Heading) (x : Direction) → a ≡ Heading.To x → a ≡ headed (eqb d 0 || ltb 6 d) → (x.0 ≡ d) × (1 ≤ d) × (d < 7) × (eqb d 0 || ltb 6 d ≡ false)
-  to-onward a x p q =
+  pub to_onward : (a : Heading) (x : Direction) → a ≡ Heading.To x → a ≡ headed (eqb d 0 || ltb 6 d) → (x.0 ≡ d) × (1 ≤ d) × (d < 7) × (eqb d 0 || ltb 6 d ≡ false)
+  to_onward a x p q =
       let r = passed (eqb d 0 || ltb 6 d) a x p q in
       let z = both_off (eqb d 0) (ltb 6 d) r.1 in
       let n = eqb-false d 0 z.0 in
@@ -72,11 +72,11 @@ module _ (t : IJK) where
 
 -- an entry whose rules are those of one point
 module _ {A : Type 0} (p : IJK) where
-  pub refuse-point : (rules : List Rule) (x : ℕ) (a : A) → not (point_in_range p) ≡ true → x ≡ 14 → refused x ≡ judged (rangeRule p ∷ rules) a
-  refuse-point rules x a h e = ap refused e ∙ sym (hit _ _ rules a h)
+  pub refuse_point : (rules : List Rule) (x : ℕ) (a : A) → not (point_in_range p) ≡ true → x ≡ 14 → refused x ≡ judged (rangeRule p ∷ rules) a
+  refuse_point rules x a h e = ap refused e ∙ sym (hit _ _ rules a h)
 
-  pub answer-point : (a b : A) → not (point_in_range p) ≡ false → a ≡ b → answered a ≡ judged (rangeRule p ∷ []) b
-  answer-point a b h e = ap answered e ∙ sym (past _ _ [] b h ∙ none-answered b)
+  pub answer_point : (a b : A) → not (point_in_range p) ≡ false → a ≡ b → answered a ≡ judged (rangeRule p ∷ []) b
+  answer_point a b h e = ap answered e ∙ sym (past _ _ [] b h ∙ none_answered b)
 
 -- a size that a larger one allows
 pub wider : (m : ℕ) (p q : IJK) → q ≡ p → Within 100000000 p → 100000000 ≤ m → Within m q

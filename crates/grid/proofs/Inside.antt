@@ -18,14 +18,14 @@ use Rattle.index.specs.Layout.{digit, base_of, resOf, isPentagonal, first_of, Va
 use Rattle.index.specs.View.{used, pack, first, Fit}
 use Rattle.index.specs.Refusals.{Outcome, answered, refused}
 use Rattle.turns.proofs.Turning.{length_turned}
-use Rattle.index.proofs.View.{fit, first_used, pack-valid, pack_base, pack_res}
+use Rattle.index.proofs.View.{fit, first_used, pack_valid, pack_base, pack_res}
 use Rattle.walks.specs.Tables.{newDigit, adjustment}
 use Rattle.walks.specs.Walks.{walked, leftOver, carryOf}
 use Rattle.grid.specs.Steps.{Answer, inside, leaves, step_of}
 use Rattle.walks.proofs.Tables.{from_zero}
 use Rattle.walks.proofs.Walks.{walked_zero}
 use Rattle.grid.proofs.Reached.{origins, from_zeros}
-use Rattle.grid.proofs.Steps.{olds, news, leaving, staying, refusing, turning-ccw, turning-cw, fit-news, fit-turned, news_length}
+use Rattle.grid.proofs.Steps.{olds, news, leaving, staying, refusing, turning_ccw, turning_cw, fit_news, fit_turned, news_length}
 
 decide : (x y : ℕ) → Dec (x ≡ y)
 decide x y = go (eqb x y) refl
@@ -57,8 +57,8 @@ module _ (n way : ℕ) (v : Valid n) (hw : way < 7) where
 
   reached : carryOf n way ≡ 0 → isPentagonal (base_of n) ≡ true → first (news n way) ≡ 1 → (first (olds n) ≡ 0) ⊎ ((first (olds n) ≡ 3) ⊎ (first (olds n) ≡ 5)) → Case n way
   reached z p g (inl e) = deleted z p g e (refusing n way z p g e)
-  reached z p g (inr (inl e)) = ccw z p g e (turning-ccw n way z p g e)
-  reached z p g (inr (inr e)) = cw z p g e (turning-cw n way z p g (λ q. omega arith) (λ q. omega arith))
+  reached z p g (inr (inl e)) = ccw z p g e (turning_ccw n way z p g e)
+  reached z p g (inr (inr e)) = cw z p g e (turning_cw n way z p g (λ q. omega arith) (λ q. omega arith))
 
   first_one : carryOf n way ≡ 0 → isPentagonal (base_of n) ≡ true → Dec (first (news n way) ≡ 1) → Case n way
   first_one z p (yes g) = reached z p g (no_other z p g)
@@ -83,17 +83,17 @@ module _ (n way : ℕ) (v : Valid n) (hw : way < 7) where
 
   packs : (m : ℕ) (es : List ℕ) → Fit (base_of n) es → length es ≡ resOf n → pack (base_of n) es ≡ m → In m
   packs m es f l e =
-      subst In e (record { cell = pack-valid (base_of n) es f; base = pack_base (base_of n) es f; res = pack_res (base_of n) es f ∙ l })
+      subst In e (record { cell = pack_valid (base_of n) es f; base = pack_base (base_of n) es f; res = pack_res (base_of n) es f ∙ l })
 
-  pub step-inside : (m t : ℕ) → step_of n way ≡ answered (inside m t) → In m
-  step-inside m t e = go cases
+  pub step_inside : (m t : ℕ) → step_of n way ≡ answered (inside m t) → In m
+  step_inside m t e = go cases
     where
       go : Case n way → In m
       go (left f s) = (never (step_of n way) m t e).0 (carryOf n way) s
-      go (stayed z k s) = packs m (news n way) (fit-news n way v hw k) (news_length n way v hw) (within (step_of n way) _ 0 m t s e).0
+      go (stayed z k s) = packs m (news n way) (fit_news n way v hw k) (news_length n way v hw) (within (step_of n way) _ 0 m t s e).0
       go (deleted z p g f s) = (never (step_of n way) m t e).1 17 s
-      go (ccw z p g f s) = packs m (map (turns true 1) (news n way)) (fit-turned n way v hw true g) (length_turned true 1 (news n way) ∙ news_length n way v hw) (within (step_of n way) _ 1 m t s e).0
-      go (cw z p g f s) = packs m (map (turns false 1) (news n way)) (fit-turned n way v hw false g) (length_turned false 1 (news n way) ∙ news_length n way v hw) (within (step_of n way) _ 5 m t s e).0
+      go (ccw z p g f s) = packs m (map (turns true 1) (news n way)) (fit_turned n way v hw true g) (length_turned true 1 (news n way) ∙ news_length n way v hw) (within (step_of n way) _ 1 m t s e).0
+      go (cw z p g f s) = packs m (map (turns false 1) (news n way)) (fit_turned n way v hw false g) (length_turned false 1 (news n way) ∙ news_length n way v hw) (within (step_of n way) _ 5 m t s e).0
 
 -- a string of zeros, in direction 1
 all_zero : (d : ℕ) (ds : List ℕ) → first (d ∷ ds) ≡ 0 → (d ≡ 0) × (first ds ≡ 0)

@@ -16,7 +16,7 @@ use Rattle.index.specs.Written.{WithDigits}
 use Rattle.index.proofs.Runs.{length_used}
 use Rattle.index.proofs.View.{fit, first_used}
 use Rattle.index.proofs.Redrawn.{redrawn_cell, redrawn_twice}
-use Rattle.index.proofs.Loose.{loose_used, loose-rest, loose_res}
+use Rattle.index.proofs.Loose.{loose_used, loose_rest, loose_res}
 use Rattle.turns.proofs.Turning.{length_turned, digits_turned, first_turned}
 use Rattle.walks.specs.Walks.{walked, walkedOf, carryOf}
 use Rattle.grid.specs.Steps.{inside, leaves, outOfDeleted, staysIn, step_of}
@@ -51,13 +51,13 @@ module _ (n way : ℕ) (e : carryOf n way ≡ 0) (p : isPentagonal (base_of n) �
   unfolding outOfDeleted
   refusing f = out ∙ rw (eq-eqb (first (olds n)) 0 f)
 
-  pub turning-ccw : first (olds n) ≡ 3 → step_of n way ≡ answered (inside (pack (base_of n) (map (turns true 1) (news n way))) 1)
+  pub turning_ccw : first (olds n) ≡ 3 → step_of n way ≡ answered (inside (pack (base_of n) (map (turns true 1) (news n way))) 1)
   unfolding outOfDeleted
-  turning-ccw f = out ∙ rw (ne_eqb (first (olds n)) 0 (λ q. omega arith), eq-eqb (first (olds n)) 3 f)
+  turning_ccw f = out ∙ rw (ne_eqb (first (olds n)) 0 (λ q. omega arith), eq-eqb (first (olds n)) 3 f)
 
-  pub turning-cw : (first (olds n) ≡ 0 → ⊥) → (first (olds n) ≡ 3 → ⊥) → step_of n way ≡ answered (inside (pack (base_of n) (map (turns false 1) (news n way))) 5)
+  pub turning_cw : (first (olds n) ≡ 0 → ⊥) → (first (olds n) ≡ 3 → ⊥) → step_of n way ≡ answered (inside (pack (base_of n) (map (turns false 1) (news n way))) 5)
   unfolding outOfDeleted
-  turning-cw a b = out ∙ rw (ne_eqb (first (olds n)) 0 a, ne_eqb (first (olds n)) 3 b)
+  turning_cw a b = out ∙ rw (ne_eqb (first (olds n)) 0 a, ne_eqb (first (olds n)) 3 b)
 
 -- the new digits of a cell
 module _ (n way : ℕ) (v : Valid n) (hw : way < 7) where
@@ -67,12 +67,12 @@ module _ (n way : ℕ) (v : Valid n) (hw : way < 7) where
   pub news_digits : Digits (news n way)
   news_digits = (digits_walked (olds n) way (fit n v).digits hw).0
 
-  pub fit-news : (isPentagonal (base_of n) ≡ true → first (news n way) ≡ 1 → ⊥) → Fit (base_of n) (news n way)
-  fit-news kept = record { base = v.base; short = rw news_length (omega arith); digits = news_digits; kept = kept }
+  pub fit_news : (isPentagonal (base_of n) ≡ true → first (news n way) ≡ 1 → ⊥) → Fit (base_of n) (news n way)
+  fit_news kept = record { base = v.base; short = rw news_length (omega arith); digits = news_digits; kept = kept }
 
   -- turned once, the first digit 1 is 5 or 3
-  pub fit-turned : (o : Bool) → first (news n way) ≡ 1 → Fit (base_of n) (map (turns o 1) (news n way))
-  fit-turned o g =
+  pub fit_turned : (o : Bool) → first (news n way) ≡ 1 → Fit (base_of n) (map (turns o 1) (news n way))
+  fit_turned o g =
       record {
         base = v.base;
         short = rw (length_turned o 1 (news n way), news_length) (omega arith);
@@ -89,25 +89,25 @@ module _ (n way : ℕ) (v : Valid n) (hw : way < 7) where
   unfolding walkedOf
   walked_res = loose_res (base_of n) (news n way) (omega (arith, v.base)) (rw news_length (omega arith)) news_digits ∙ news_length
 
-  pub walked-used : used (walkedOf n way) (resOf (walkedOf n way)) ≡ news n way
+  pub walked_used : used (walkedOf n way) (resOf (walkedOf n way)) ≡ news n way
   unfolding walkedOf
-  walked-used =
+  walked_used =
       let hb : base_of n ≤ 127 = omega (arith, v.base) in
       let hs : length (news n way) ≤ 15 = rw news_length (omega arith) in
       ap (used (pack (base_of n) (news n way))) (loose_res (base_of n) (news n way) hb hs news_digits) ∙ loose_used (base_of n) (news n way) hb hs news_digits
 
-  pub walked-rest : (s : ℕ) → resOf (walkedOf n way) < s → s ≤ 15 → digit (walkedOf n way) s ≡ 7
+  pub walked_rest : (s : ℕ) → resOf (walkedOf n way) < s → s ≤ 15 → digit (walkedOf n way) s ≡ 7
   unfolding walkedOf
-  walked-rest s g l =
-      loose-rest (base_of n) (news n way) (omega (arith, v.base)) (rw news_length (omega arith)) news_digits s (subst (λ (k : ℕ). k < s) (walked_res ∙ sym news_length) g) l
+  walked_rest s g l =
+      loose_rest (base_of n) (news n way) (omega (arith, v.base)) (rw news_length (omega arith)) news_digits s (subst (λ (k : ℕ). k < s) (walked_res ∙ sym news_length) g) l
 
   pub walked_first : first_of (walkedOf n way) (resOf (walkedOf n way)) ≡ first (news n way)
-  walked_first = sym (first_used (walkedOf n way) (resOf (walkedOf n way))) ∙ ap first walked-used
+  walked_first = sym (first_used (walkedOf n way) (resOf (walkedOf n way))) ∙ ap first walked_used
 
-  pub walked-turned : (o : Bool) (y : ℕ) → n < 2 ^ 64 → y < 2 ^ 64 → WithDigits (walkedOf n way) (map (turns o 1) (used (walkedOf n way) (resOf (walkedOf n way)))) y → y ≡ pack (base_of n) (map (turns o 1) (news n way))
-  walked-turned o y h hy w =
+  pub walked_turned : (o : Bool) (y : ℕ) → n < 2 ^ 64 → y < 2 ^ 64 → WithDigits (walkedOf n way) (map (turns o 1) (used (walkedOf n way) (resOf (walkedOf n way)))) y → y ≡ pack (base_of n) (map (turns o 1) (news n way))
+  walked_turned o y h hy w =
       let m = walk_moved n way h v hw in
-      let d : used (walkedOf n way) (resOf n) ≡ news n way = subst (λ (k : ℕ). used (walkedOf n way) k ≡ news n way) walked_res walked-used in
+      let d : used (walkedOf n way) (resOf n) ≡ news n way = subst (λ (k : ℕ). used (walkedOf n way) k ≡ news n way) walked_res walked_used in
       redrawn_cell n (map (turns o 1) (news n way)) y hy v
       (redrawn_twice n (news n way) (map (turns o 1) (news n way)) (walkedOf n way) y (record { upper = m.upper; digits = d; rest = m.rest })
-      (subst (λ (xs : List ℕ). WithDigits (walkedOf n way) (map (turns o 1) xs) y) walked-used w))
+      (subst (λ (xs : List ℕ). WithDigits (walkedOf n way) (map (turns o 1) xs) y) walked_used w))

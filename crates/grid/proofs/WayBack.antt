@@ -25,7 +25,7 @@ use Rattle.walks.specs.Walks.{walked, leftOver, carryOf}
 use Rattle.grid.specs.Steps.{inside, step_of}
 use Rattle.walks.proofs.Tables.{at_pair, adjusted_below}
 use Rattle.walks.proofs.Walks.{assoc, length_walked, digits_walked, walked_joint, walked_only}
-use Rattle.grid.proofs.Steps.{olds, news, staying, turning-ccw, turning-cw, fit-news, fit-turned}
+use Rattle.grid.proofs.Steps.{olds, news, staying, turning_ccw, turning_cw, fit_news, fit_turned}
 use Rattle.grid.proofs.Inside.{Case, left, stayed, deleted, ccw, cw, cases, within, never}
 
 -- a carry of 0 adds nothing
@@ -121,7 +121,7 @@ module _ (n way : ℕ) (h : n < 2 ^ 64) (v : Valid n) (l : 1 ≤ way) (hw : way 
   back : (m : ℕ) → carryOf n way ≡ 0 → (isPentagonal (base_of n) ≡ true → first (news n way) ≡ 1 → ⊥) → pack (base_of n) (news n way) ≡ m → step_of m (7 - way) ≡ answered (inside n 0)
   unfolding carryOf
   back m z k e =
-      let f = fit-news n way v hw k in
+      let f = fit_news n way v hw k in
       let b = walked_back (olds n) way (fit n v).digits l hw z in
       let eb : base_of m ≡ base_of n = ap base_of (sym e) ∙ pack_base (base_of n) (news n way) f in
       let eo : olds m ≡ news n way = ap olds (sym e) ∙ ap (used (pack (base_of n) (news n way))) (pack_res (base_of n) (news n way) f) ∙ pack_used (base_of n) (news n way) f in
@@ -137,7 +137,7 @@ module _ (n way : ℕ) (h : n < 2 ^ 64) (v : Valid n) (l : 1 ≤ way) (hw : way 
 
     fits : Fit (base_of n) es
     unfolding es
-    fits = fit-turned n way v hw o g
+    fits = fit_turned n way v hw o g
 
     bases : base_of m ≡ base_of n
     unfolding es
@@ -173,12 +173,12 @@ module _ (n way : ℕ) (h : n < 2 ^ 64) (v : Valid n) (l : 1 ≤ way) (hw : way 
   back_ccw : (m : ℕ) → carryOf n way ≡ 0 → isPentagonal (base_of n) ≡ true → first (news n way) ≡ 1 → first (olds n) ≡ 3 → pack (base_of n) (map (turns true 1) (news n way)) ≡ m → step_of m (turn true (7 - way)) ≡ answered (inside n 5)
   back_ccw m z q g f e =
       let a : first (olds m) ≡ 5 = origin_first true m z q g f e in
-      turning-cw m (turn true (7 - way)) (walks true m z q g f e).1 (ap isPentagonal (bases true m z q g f e) ∙ q) (deleted_again true m z q g f e) (λ x. omega arith) (λ x. omega arith)
+      turning_cw m (turn true (7 - way)) (walks true m z q g f e).1 (ap isPentagonal (bases true m z q g f e) ∙ q) (deleted_again true m z q g f e) (λ x. omega arith) (λ x. omega arith)
       ∙ ap (λ (x : ℕ). answered (inside x 5)) (given_back true m z q g f e)
 
   back_cw : (m : ℕ) → carryOf n way ≡ 0 → isPentagonal (base_of n) ≡ true → first (news n way) ≡ 1 → first (olds n) ≡ 5 → pack (base_of n) (map (turns false 1) (news n way)) ≡ m → step_of m (turn false (7 - way)) ≡ answered (inside n 1)
   back_cw m z q g f e =
-      turning-ccw m (turn false (7 - way)) (walks false m z q g f e).1 (ap isPentagonal (bases false m z q g f e) ∙ q) (deleted_again false m z q g f e) (origin_first false m z q g f e)
+      turning_ccw m (turn false (7 - way)) (walks false m z q g f e).1 (ap isPentagonal (bases false m z q g f e) ∙ q) (deleted_again false m z q g f e) (origin_first false m z q g f e)
       ∙ ap (λ (x : ℕ). answered (inside x 1)) (given_back false m z q g f e)
 
   pub way_back : (m t : ℕ) → step_of n way ≡ answered (inside m t) → step_of m (turns true t (7 - way)) ≡ answered (inside n ((6 - t) % 6))

@@ -10,7 +10,7 @@ use borrow.Author.Tests.{ltb-false}
 use Rattle.index.specs.Layout.{resOf}
 use Rattle.index.specs.Refusals.{◌when◌, answered}
 use Rattle.index.specs.Check.{cellRules}
-use Rattle.index.proofs.Rules.{answered-same, answered-clear, clear_parts}
+use Rattle.index.proofs.Rules.{answered_same, answered_clear, clear_parts}
 use Rattle.index.proofs.Some.{both_off}
 use Rattle.index.proofs.Validity.{clear_valid}
 use Rattle.descent.specs.Descendants.{count_of, Listing}
@@ -29,9 +29,9 @@ pub record Listed (n t k room : ℕ) : Type 0 where
 
 pub listed : (n t room k : ℕ) → n < 2 ^ 64 → list_of n t room ≡ answered k → Listed n t k room
 listed n t room k h e =
-    let c = clear_parts (finerRules n t) (roomRule n t room ∷ []) (answered-clear (finerRules n t ++ (roomRule n t room ∷ [])) (count_of n t) k e) in
+    let c = clear_parts (finerRules n t) (roomRule n t room ∷ []) (answered_clear (finerRules n t ++ (roomRule n t room ∷ [])) (count_of n t) k e) in
     let d = clear_parts (cellRules n) (resolutionRule t ∷ (9 when ltb t (resOf n)) ∷ []) c.0 in
-    let z = answered-same (finerRules n t ++ (roomRule n t room ∷ [])) (count_of n t) k e in
+    let z = answered_same (finerRules n t ++ (roomRule n t room ∷ [])) (count_of n t) k e in
     record {
       meaning = whole n t h (clear_valid n d.0) (ltb-false t (resOf n) d.1.1.0) (ltb-false 15 t d.1.0);
       count = sym z ∙ sym (length_listing n t);
@@ -44,10 +44,10 @@ pub record Walk-meant (n way y carry : ℕ) : Type 0 where
 
 pub walked : (n way y carry : ℕ) → n < 2 ^ 64 → walk_of n way ≡ answered (y, carry) → Walk-meant n way y carry
 walked n way y carry h e =
-    let c = clear_parts (cellRules n) (onwardRule way ∷ []) (answered-clear (onwardRules n way) (walkedOf n way, carryOf n way) (y, carry) e) in
+    let c = clear_parts (cellRules n) (onwardRule way ∷ []) (answered_clear (onwardRules n way) (walkedOf n way, carryOf n way) (y, carry) e) in
     let v = clear_valid n c.0 in
     let w : way < 7 = omega (arith, ltb-false 6 way (both_off (eqb way 0) (ltb 6 way) c.1.0).1) in
-    let z = answered-same (onwardRules n way) (walkedOf n way, carryOf n way) (y, carry) e in
+    let z = answered_same (onwardRules n way) (walkedOf n way, carryOf n way) (y, carry) e in
     let p : walkedOf n way ≡ y = ap (λ (x : ℕ × ℕ). x.0) z in
     let q : carryOf n way ≡ carry = ap (λ (x : ℕ × ℕ). x.1) z in
     record {

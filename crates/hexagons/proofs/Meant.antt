@@ -14,7 +14,7 @@ use Rattle.index.specs.Layout.{Valid, resOf}
 use Rattle.index.specs.Refusals.{Rule, ◌when◌, Outcome, answered, refused, judged, Met}
 use Rattle.index.specs.View.{used}
 use Rattle.index.specs.Check.{cellRules}
-use Rattle.index.proofs.Rules.{refused-inj, never, refused-met, answered-same, answered-clear, clear-answered, clear_parts, cleared, hit, Others, later, joined}
+use Rattle.index.proofs.Rules.{refused_inj, never, refused_met, answered_same, answered_clear, clear_answered, clear_parts, cleared, hit, Others, later, joined}
 use Rattle.index.proofs.Some.{both_off}
 use Rattle.index.proofs.Validity.{clear_valid, valid_clear}
 use Rattle.plane.specs.Directions.{unit}
@@ -60,7 +60,7 @@ given_12 n y hn hy = (there, back)
   where
     there : position_of n y ≡ refused 12 → Valid n × Valid y × (Descendant n (resOf y) y → ⊥)
     there e =
-        let a = later 12 (cellRules n) (cellRules y ++ ((12 when not (positions.under n y)) ∷ [])) (others n 12 (omega arith)) (refused-met (cellRules n ++ (cellRules y ++ ((12 when not (positions.under n y)) ∷ []))) (positions.position_of n y) 12 e) in
+        let a = later 12 (cellRules n) (cellRules y ++ ((12 when not (positions.under n y)) ∷ [])) (others n 12 (omega arith)) (refused_met (cellRules n ++ (cellRules y ++ ((12 when not (positions.under n y)) ∷ []))) (positions.position_of n y) 12 e) in
         let b = later 12 (cellRules y) ((12 when not (positions.under n y)) ∷ []) (others y 12 (omega arith)) a.1 in
         let v = clear_valid n a.0 in (
           v,
@@ -83,9 +83,9 @@ given_15 r p = (λ e. there (judged (resolutionRule r ∷ rangeRule p ∷ []) tt
   where
     there : (o : Outcome (Unit {0})) → judged (resolutionRule r ∷ rangeRule p ∷ []) tt ≡ o → Under o (Reads r p) (refused 15) → (r ≤ 15) × (point_in_range p ≡ true) × ((ds : List ℕ) → StringOf r p ds → ⊥)
     there (answered u) q e =
-        let c = answered-clear (resolutionRule r ∷ rangeRule p ∷ []) tt u q in
+        let c = answered_clear (resolutionRule r ∷ rangeRule p ∷ []) tt u q in
         (ltb-false 15 r c.0, not-false (point_in_range p) c.1.0, e.1)
-    there (refused k) q e = absurd (unlike (refused-met (resolutionRule r ∷ rangeRule p ∷ []) tt 15 (q ∙ ap refused (sym (refused-inj e)))))
+    there (refused k) q e = absurd (unlike (refused_met (resolutionRule r ∷ rangeRule p ∷ []) tt 15 (q ∙ ap refused (sym (refused_inj e)))))
       where
         unlike : Met 15 (resolutionRule r ∷ rangeRule p ∷ []) → ⊥
         unlike m = (later 15 (resolutionRule r ∷ rangeRule p ∷ []) [] (λ x. omega arith, (λ x. omega arith, tt)) m).1
@@ -93,7 +93,7 @@ given_15 r p = (λ e. there (judged (resolutionRule r ∷ rangeRule p ∷ []) tt
     back : (r ≤ 15) × (point_in_range p ≡ true) × ((ds : List ℕ) → StringOf r p ds → ⊥) → ReadsBack r p (refused 15)
     back q =
         subst (λ (o : Outcome (Unit {0})). Under o (Reads r p) (refused 15))
-        (sym (clear-answered (resolutionRule r ∷ rangeRule p ∷ []) tt (le-ltb 15 r q.0, (ap not q.1, tt))))
+        (sym (clear_answered (resolutionRule r ∷ rangeRule p ∷ []) tt (le-ltb 15 r q.0, (ap not q.1, tt))))
         (refl, q.2)
 
 pub given_16 : (t : IJK) → (directionOf t ≡ refused 16) ↔ ((point_in_range t ≡ true) × ((d : ℕ) → d < 7 → Same t (unit d) → ⊥))
@@ -101,7 +101,7 @@ given_16 t = (there, back)
   where
     there : directionOf t ≡ refused 16 → (point_in_range t ≡ true) × ((d : ℕ) → d < 7 → Same t (unit d) → ⊥)
     there e =
-        let a = later 16 (rangeRule t ∷ []) (unitRule t ∷ []) (λ x. omega arith, tt) (refused-met (rangeRule t ∷ unitRule t ∷ []) (value (normal t)) 16 e) in
+        let a = later 16 (rangeRule t ∷ []) (unitRule t ∷ []) (λ x. omega arith, tt) (refused_met (rangeRule t ∷ unitRule t ∷ []) (value (normal t)) 16 e) in
         (not-false (point_in_range t) a.0.0, ⊎_elim (λ q. (not_unit t).0 (ap (λ (b : Bool). cond b (Found (direction (value (normal t)))) NotUnit) (not-true (le_z (largest (normal t)) (pos 1)) q.0))) (λ q. absurd q.1) a.1)
 
     far : (b : Bool) → le_z (largest (normal t)) (pos 1) ≡ b → direction_of t ≡ NotUnit → not b ≡ true
@@ -118,7 +118,7 @@ given_17 n way = (λ e. there (judged (onwardRules n way) tt) refl e, back)
   where
     there : (o : Outcome (Unit {0})) → judged (onwardRules n way) tt ≡ o → after o (steps.step_of n way) ≡ refused 17 → Valid n × Pentagon n × (way ≡ 1)
     there (answered u) q e =
-        let c = clear_parts (cellRules n) (onwardRule way ∷ []) (answered-clear (onwardRules n way) tt u q) in
+        let c = clear_parts (cellRules n) (onwardRule way ∷ []) (answered_clear (onwardRules n way) tt u q) in
         let v = clear_valid n c.0 in
         let w = both_off (eqb way 0) (ltb 6 way) c.1.0 in
         let d = (deleted_way n way v (low (eqb-false way 0 w.0)) (omega (arith, ltb-false 6 way w.1))).0 e in
@@ -126,7 +126,7 @@ given_17 n way = (λ e. there (judged (onwardRules n way) tt) refl e, back)
       where
         low : (way ≡ 0 → ⊥) → 1 ≤ way
         low x = omega arith
-    there (refused k) q e = absurd (unlike (refused-met (onwardRules n way) tt 17 (q ∙ ap refused (refused-inj e))))
+    there (refused k) q e = absurd (unlike (refused_met (onwardRules n way) tt 17 (q ∙ ap refused (refused_inj e))))
       where
         unlike : Met 17 (onwardRules n way) → ⊥
         unlike m = (later 17 (onwardRule way ∷ []) [] (λ x. omega arith, tt) (later 17 (cellRules n) (onwardRule way ∷ []) (others n 17 (omega arith)) m).1).1
@@ -134,19 +134,19 @@ given_17 n way = (λ e. there (judged (onwardRules n way) tt) refl e, back)
     back : Valid n × Pentagon n × (way ≡ 1) → step_of n way ≡ refused 17
     back p =
         let w : way ≡ 1 = p.2 in
-        ap (λ (o : Outcome (Unit {0})). after o (steps.step_of n way)) (clear-answered (onwardRules n way) tt (joined (cellRules n) (onwardRule way ∷ []) (valid_clear n p.0) (ap (λ (x : ℕ). eqb x 0 || ltb 6 x) w, tt)))
+        ap (λ (o : Outcome (Unit {0})). after o (steps.step_of n way)) (clear_answered (onwardRules n way) tt (joined (cellRules n) (onwardRule way ∷ []) (valid_clear n p.0) (ap (λ (x : ℕ). eqb x 0 || ltb 6 x) w, tt)))
         ∙ (deleted_way n way p.0 (omega arith) (omega arith)).1 (p.1, p.2)
 
 -- every point answered is in normal form: where the answer is the normal form of something, as normalise, neighbour, from_ij and the images have it, and
 -- where it is a unit vector or a centre
 pub normal_answered : (rules : List Rule) (t p : IJK) → judged rules (normal t) ≡ answered p → normal p ≡ p
-normal_answered rules t p e = subst (λ (x : IJK). normal x ≡ x) (answered-same rules (normal t) p e) (normal_same t)
+normal_answered rules t p e = subst (λ (x : IJK). normal x ≡ x) (answered_same rules (normal t) p e) (normal_same t)
 
 pub unit_answered : (d : ℕ) (p : IJK) → unit_of d ≡ answered p → normal p ≡ p
 unit_answered d p e =
-    let c = answered-clear (wayRule d ∷ []) (unit d) p e in
-    subst (λ (x : IJK). normal x ≡ x) (answered-same (wayRule d ∷ []) (unit d) p e) (unit_normal d (omega (arith, ltb-false 6 d c.0)))
+    let c = answered_clear (wayRule d ∷ []) (unit d) p e in
+    subst (λ (x : IJK). normal x ≡ x) (answered_same (wayRule d ∷ []) (unit d) p e) (unit_normal d (omega (arith, ltb-false 6 d c.0)))
 
 pub centre_answered : (n : ℕ) (p : IJK) → entries.centreOf n ≡ answered p → normal p ≡ p
 unfolding centres.centreOf
-centre_answered n p e = subst (λ (x : IJK). normal x ≡ x) (answered-same (cellRules n) (centres.centreOf n) p e) (centre_normal (used n (resOf n)))
+centre_answered n p e = subst (λ (x : IJK). normal x ≡ x) (answered_same (cellRules n) (centres.centreOf n) p e) (centre_normal (used n (resOf n)))

@@ -5,7 +5,7 @@ use types.Run
 use Rattle.index.specs.Layout.{Valid as Valid·}
 use Rattle.index.specs.Refusals.{Rule, answered, refused, number_of, judged}
 use Rattle.index.specs.Check.{cellRules, checkOf, told}
-use Rattle.index.proofs.Rules.{answered-same, early, cleared}
+use Rattle.index.proofs.Rules.{answered_same, early, cleared}
 use Rattle.index.proofs.Validity.{accepted_valid, valid_clear}
 use Rattle.index.specs.contracts.Checked as checked-type
 use Rattle.index.specs.declared.Cell.{Cell}
@@ -16,7 +16,7 @@ use Rattle.index.specs.declared.Checked.TheVariants.{Valid, Refused}
 pub of_cell : (n : ℕ) (a : Checked) (c : Cell) → a ≡ Valid c → told a ≡ checkOf n → (c.0 ≡ n) × Valid· n
 of_cell n a c p q =
     let e : checkOf n ≡ answered c.0 = sym q ∙ ap told p in
-    let z : n ≡ c.0 = answered-same (cellRules n) n c.0 e in
+    let z : n ≡ c.0 = answered_same (cellRules n) n c.0 e in
     (sym z, accepted_valid n (e ∙ ap answered (sym z)))
 
 -- the arm of a refusal
@@ -26,8 +26,8 @@ of_refusal n (Refused x) o e = sym e
 
 -- what an entry whose rules begin with those of a cell goes on with
 module _ {B : Type 0} (n : ℕ) (more : List Rule) (b : B) where
-  pub past-cell : Valid· n → judged (cellRules n ++ more) b ≡ judged more b
-  past-cell v = cleared (cellRules n) more b (valid_clear n v)
+  pub past_cell : Valid· n → judged (cellRules n ++ more) b ≡ judged more b
+  past_cell v = cleared (cellRules n) more b (valid_clear n v)
 
-  pub hit-cell : (k : ℕ) → checkOf n ≡ refused k → judged (cellRules n ++ more) b ≡ refused k
-  hit-cell k e = early (cellRules n) more n b k e
+  pub hit_cell : (k : ℕ) → checkOf n ≡ refused k → judged (cellRules n ++ more) b ≡ refused k
+  hit_cell k e = early (cellRules n) more n b k e

@@ -8,7 +8,7 @@ use Rattle.index.specs.View.{used, pack, first, Fit}
 use Rattle.index.specs.Ancestor.{ancestorOf}
 use Rattle.index.proofs.Runs.{eights_pos, run, octal_used, length_used}
 use Rattle.index.proofs.Sum.{sum}
-use Rattle.index.proofs.View.{low_split, run_lt, small_used, first_used, pack-valid, pack_res, pack_base, pack_fits, pack_used}
+use Rattle.index.proofs.View.{low_split, run_lt, small_used, first_used, pack_valid, pack_res, pack_base, pack_fits, pack_used}
 
 -- where the first of t digits is not 0 it is the first of k digits too
 first_on : (n t k : ℕ) → t ≤ k → first_of n t ≡ 1 → first_of n k ≡ 1
@@ -32,7 +32,7 @@ module _ (n t : ℕ) (v : Valid n) (l : t ≤ resOf n) where
 
   pub ancestor_valid : Valid (ancestorOf n t)
   unfolding ancestorOf
-  ancestor_valid = pack-valid (base_of n) (used n t) fit_cut
+  ancestor_valid = pack_valid (base_of n) (used n t) fit_cut
 
   pub ancestor_res : resOf (ancestorOf n t) ≡ t
   unfolding ancestorOf

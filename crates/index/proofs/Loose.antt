@@ -5,7 +5,7 @@ use Rattle.index.specs.Layout.{digit, resOf, base_of, isPentagonal, among}
 use Rattle.index.specs.View.{used, pack, Fit}
 use Rattle.index.proofs.First.{digit_low}
 use Rattle.index.proofs.Sum.{sum, sum_base, sum_res}
-use Rattle.index.proofs.View.{pack_used, pack_base, pack_res, pack_fits, pack-valid}
+use Rattle.index.proofs.View.{pack_used, pack_base, pack_res, pack_fits, pack_valid}
 use Rattle.index.proofs.Redrawn.{used_same}
 
 -- a digit is one of the low 45 bits
@@ -28,7 +28,7 @@ module _ (b : ℕ) (ds : List ℕ) (hb : b ≤ 127) (short : length ds ≤ 15) (
 
   whole : p ≡ 2 ^ 59 + length ds * 2 ^ 52 + 0 * 2 ^ 45 + p % 2 ^ 45
   whole =
-      let v = pack-valid 0 ds bare in
+      let v = pack_valid 0 ds bare in
       let s = sum p (omega (arith, pack_fits 0 ds bare)) v.top v.mode v.reserved in
       rw (pack_res 0 ds bare, pack_base 0 ds bare) at s
 
@@ -50,9 +50,9 @@ module _ (b : ℕ) (ds : List ℕ) (hb : b ≤ 127) (short : length ds ≤ 15) (
   pub loose_used : used (pack b ds) (length ds) ≡ ds
   loose_used = used_same p (pack b ds) (length ds) (λ s g l. digit_same p (pack b ds) s low g (omega arith)) ∙ pack_used 0 ds bare
 
-  pub loose-rest : (s : ℕ) → length ds < s → s ≤ 15 → digit (pack b ds) s ≡ 7
-  loose-rest s g l =
-      let r = (pack-valid 0 ds bare).rest in
+  pub loose_rest : (s : ℕ) → length ds < s → s ≤ 15 → digit (pack b ds) s ≡ 7
+  loose_rest s g l =
+      let r = (pack_valid 0 ds bare).rest in
       digit_same p (pack b ds) s low (omega arith) l ∙ (rw (pack_res 0 ds bare) at r) s g l
 
   pub loose_upper : pack b ds / 2 ^ 45 ≡ 2 ^ 14 + length ds * 2 ^ 7 + b

@@ -11,9 +11,9 @@ module _ {A : Type 0} where
   unfolding judged
   hit k t rules a e = rw e
 
-  pub none-answered : (a : A) → judged [] a ≡ answered a
+  pub none_answered : (a : A) → judged [] a ≡ answered a
   unfolding judged
-  none-answered a = refl
+  none_answered a = refl
 
   -- a test before others, where what they come to is the number of a refusal, at most m, or 0; the others need only be right where it fails
   pub numbered : (m j k k' : ℕ) (t t' : Bool) (rules : List Rule) (a : A) → 1 ≤ j → j ≤ m → k' ≡ cond t' j k → t' ≡ t →
@@ -24,55 +24,55 @@ module _ {A : Type 0} where
   numbered m j k k' false t' rules a l u e q h = rw (e, q) (h refl)
 
   -- a refusal's number, or 0
-  pub number-answered : (a : A) (k : ℕ) → k ≡ 0 → cond (eqb k 0) (answered a) (refused k) ≡ answered a
-  number-answered a k e = rw e
+  pub number_answered : (a : A) (k : ℕ) → k ≡ 0 → cond (eqb k 0) (answered a) (refused k) ≡ answered a
+  number_answered a k e = rw e
 
-  pub number-refused : (a : A) (k : ℕ) → (k ≡ 0 → ⊥) → cond (eqb k 0) (answered a) (refused k) ≡ refused k
-  number-refused a k h = rw (ne_eqb k 0 h)
+  pub number_refused : (a : A) (k : ℕ) → (k ≡ 0 → ⊥) → cond (eqb k 0) (answered a) (refused k) ≡ refused k
+  number_refused a k h = rw (ne_eqb k 0 h)
 
-  pub refused-inj : {j k : ℕ} → ◌≡◌ {A = Outcome A} (refused j) (refused k) → j ≡ k
-  refused-inj e = cc
+  pub refused_inj : {j k : ℕ} → ◌≡◌ {A = Outcome A} (refused j) (refused k) → j ≡ k
+  refused_inj e = cc
 
-  pub answered-inj : {a b : A} → ◌≡◌ {A = Outcome A} (answered a) (answered b) → a ≡ b
-  answered-inj e = cc
+  pub answered_inj : {a b : A} → ◌≡◌ {A = Outcome A} (answered a) (answered b) → a ≡ b
+  answered_inj e = cc
 
   pub never : {a : A} {k : ℕ} → ◌≡◌ {A = Outcome A} (answered a) (refused k) → ⊥
   never e = let z : ◌≡◌ {A = ℕ} 0 1 = cc in omega arith
 
-  pub clear-answered : (rules : List Rule) (a : A) → Clear rules → judged rules a ≡ answered a
+  pub clear_answered : (rules : List Rule) (a : A) → Clear rules → judged rules a ≡ answered a
   unfolding judged
-  clear-answered [] a c = refl
-  clear-answered ((k when t) ∷ rules) a c = rw c.0 (clear-answered rules a c.1)
+  clear_answered [] a c = refl
+  clear_answered ((k when t) ∷ rules) a c = rw c.0 (clear_answered rules a c.1)
 
-  pub answered-clear : (rules : List Rule) (a b : A) → judged rules a ≡ answered b → Clear rules
+  pub answered_clear : (rules : List Rule) (a b : A) → judged rules a ≡ answered b → Clear rules
   unfolding judged
-  answered-clear [] a b e = tt
-  answered-clear ((k when true) ∷ rules) a b e = absurd (never (sym e))
-  answered-clear ((k when false) ∷ rules) a b e = (refl, answered-clear rules a b e)
+  answered_clear [] a b e = tt
+  answered_clear ((k when true) ∷ rules) a b e = absurd (never (sym e))
+  answered_clear ((k when false) ∷ rules) a b e = (refl, answered_clear rules a b e)
 
-  pub answered-same : (rules : List Rule) (a b : A) → judged rules a ≡ answered b → a ≡ b
+  pub answered_same : (rules : List Rule) (a b : A) → judged rules a ≡ answered b → a ≡ b
   unfolding judged
-  answered-same [] a b e = cc
-  answered-same ((k when true) ∷ rules) a b e = absurd (never (sym e))
-  answered-same ((k when false) ∷ rules) a b e = answered-same rules a b e
+  answered_same [] a b e = cc
+  answered_same ((k when true) ∷ rules) a b e = absurd (never (sym e))
+  answered_same ((k when false) ∷ rules) a b e = answered_same rules a b e
 
-  pub met-refused : (rules : List Rule) (a : A) (k : ℕ) → Met k rules → judged rules a ≡ refused k
+  pub met_refused : (rules : List Rule) (a : A) (k : ℕ) → Met k rules → judged rules a ≡ refused k
   unfolding judged
-  met-refused [] a k m = absurd m
-  met-refused ((j when t) ∷ rules) a k (inl m) = rw (m.0, m.1)
-  met-refused ((j when t) ∷ rules) a k (inr m) = rw m.0 (met-refused rules a k m.1)
+  met_refused [] a k m = absurd m
+  met_refused ((j when t) ∷ rules) a k (inl m) = rw (m.0, m.1)
+  met_refused ((j when t) ∷ rules) a k (inr m) = rw m.0 (met_refused rules a k m.1)
 
-  pub refused-met : (rules : List Rule) (a : A) (k : ℕ) → judged rules a ≡ refused k → Met k rules
+  pub refused_met : (rules : List Rule) (a : A) (k : ℕ) → judged rules a ≡ refused k → Met k rules
   unfolding judged
-  refused-met [] a k e = absurd (never e)
-  refused-met ((j when true) ∷ rules) a k e = inl (refl, refused-inj e)
-  refused-met ((j when false) ∷ rules) a k e = inr (refl, refused-met rules a k e)
+  refused_met [] a k e = absurd (never e)
+  refused_met ((j when true) ∷ rules) a k e = inl (refl, refused_inj e)
+  refused_met ((j when false) ∷ rules) a k e = inr (refl, refused_met rules a k e)
 
 -- rules after others: what the first ones refuse is refused, and what they let through the later ones judge
 pub early : {A B : Type 0} (rules more : List Rule) (a : A) (b : B) (k : ℕ) → judged rules a ≡ refused k → judged (rules ++ more) b ≡ refused k
 unfolding judged
 early [] more a b k e = absurd (never e)
-early ((j when true) ∷ rules) more a b k e = ap refused (refused-inj e)
+early ((j when true) ∷ rules) more a b k e = ap refused (refused_inj e)
 early ((j when false) ∷ rules) more a b k e = early rules more a b k e
 
 pub cleared : {B : Type 0} (rules more : List Rule) (b : B) → Clear rules → judged (rules ++ more) b ≡ judged more b

@@ -4,7 +4,7 @@ use borrow.Author.Tests.{eqb-false, not-false}
 use Rattle.index.specs.Layout.{top_bit, resOf, base_of, digit, Valid}
 use Rattle.index.specs.Refusals.{Clear, answered}
 use Rattle.index.specs.Check.{someOther, cellRules, checkOf}
-use Rattle.index.proofs.Rules.{clear-answered, answered-clear}
+use Rattle.index.proofs.Rules.{clear_answered, answered_clear}
 use Rattle.index.proofs.Some.{some_off, off_some}
 
 and_off : (a : Bool) (x : ℕ) → a && eqb x 1 ≡ false → a ≡ true → x ≡ 1 → ⊥
@@ -57,7 +57,7 @@ valid_clear n v =
     )
 
 pub accepted_valid : (n : ℕ) → checkOf n ≡ answered n → Valid n
-accepted_valid n e = clear_valid n (answered-clear (cellRules n) n n e)
+accepted_valid n e = clear_valid n (answered_clear (cellRules n) n n e)
 
 pub valid_accepted : (n : ℕ) → Valid n → checkOf n ≡ answered n
-valid_accepted n v = clear-answered (cellRules n) n (valid_clear n v)
+valid_accepted n v = clear_answered (cellRules n) n (valid_clear n v)

@@ -136,8 +136,8 @@ module _ (b : ℕ) (ds : List ℕ) (o : Fit b ds) where
   unfolding pack
   tops = (sum_top _ _ _ o.short base_fits low_fits, sum_mode _ _ _ o.short base_fits low_fits, sum_reserved _ _ _ o.short base_fits low_fits)
 
-  pub pack-valid : Valid (pack b ds)
-  pack-valid =
+  pub pack_valid : Valid (pack b ds)
+  pack_valid =
       let n : ℕ = pack b ds in
       let h = o.short in
       record {

@@ -83,8 +83,8 @@ module _ (n r d : ℕ) (hd : d < 8) where
       let f : (a : ℕ) → (a * 8 ^ (15 - r) + l) / q % 8 ≡ l / q % 8 = λ a. rw e (fine a l (15 - r - (15 - s) - 1) q (eights_pos (15 - s))) in
       rw (digit8 (setDigit n r d) s, digit8 n s) (ap (λ (x : ℕ). x / q % 8) whole_set ∙ f (h * 8 + d) ∙ sym (ap (λ (x : ℕ). x / q % 8) whole ∙ f (h * 8 + digit n r)))
 
-  pub set-written : 1 ≤ r → r ≤ 15 → Written n r d (setDigit n r d)
-  set-written g u =
+  pub set_written : 1 ≤ r → r ≤ 15 → Written n r d (setDigit n r d)
+  set_written g u =
       record {
         upper = set_upper g u;
         there = set_there;
@@ -98,8 +98,8 @@ module _ (n r d : ℕ) (hd : d < 8) where
   unfolding p
   set_room = omega (arith, whole)
 
-  pub set-fits : 1 ≤ r → r ≤ 15 → n < 2 ^ 64 → setDigit n r d < 2 ^ 64
-  set-fits g u f = bound (setDigit n r d) n (set_upper g u) f
+  pub set_fits : 1 ≤ r → r ≤ 15 → n < 2 ^ 64 → setDigit n r d < 2 ^ 64
+  set_fits g u f = bound (setDigit n r d) n (set_upper g u) f
     where
       bound : (a b : ℕ) → a / 2 ^ 45 ≡ b / 2 ^ 45 → b < 2 ^ 64 → a < 2 ^ 64
       bound a b e h = omega arith

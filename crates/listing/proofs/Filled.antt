@@ -36,31 +36,31 @@ module _ (b u m : ℕ) (l : List ℕ) where
   itself false e h = let z : count false m ≡ 1 = ap (count false) e in rw z (one false (omega arith))
 
   -- below a hexagon
-  pub hexagon-7 : (l' : List ℕ) → 1 ≤ m → 7 ≤ length l → l' ≡ ramp l 0 b u 7 → l' ≡ tab (number_at b u false m) 7 ++ drop 7 l
-  hexagon-7 l' h k q = q ∙ ramped (number_at b u false m) l l 0 b u 7 k (λ j. hexagon_each b u m j h) (tab_none _ l)
+  pub hexagon_7 : (l' : List ℕ) → 1 ≤ m → 7 ≤ length l → l' ≡ ramp l 0 b u 7 → l' ≡ tab (number_at b u false m) 7 ++ drop 7 l
+  hexagon_7 l' h k q = q ∙ ramped (number_at b u false m) l l 0 b u 7 k (λ j. hexagon_each b u m j h) (tab_none _ l)
 
-  pub hexagon-49 : (l' : List ℕ) → 2 ≤ m → 49 ≤ length l → l' ≡ stairs l 0 b u 7 → l' ≡ tab (number_at b u false m) 49 ++ drop 49 l
-  hexagon-49 l' h k q =
+  pub hexagon_49 : (l' : List ℕ) → 2 ≤ m → 49 ≤ length l → l' ≡ stairs l 0 b u 7 → l' ≡ tab (number_at b u false m) 49 ++ drop 49 l
+  hexagon_49 l' h k q =
       q ∙ staired (number_at b u false m) l l 0 b u 7 k
       (λ x j g i. sibling false b u m x j x (0 + 7 * x + j) (b + x * (8 * u) + j * u) (omega arith) i (hexagon_block (m - 1) x (omega arith) g) (omega arith) refl) (tab_none _ l)
 
   -- below a pentagon
-  pub pentagon-6 : (l₁ : List ℕ) → 1 ≤ m → 6 ≤ length l → l₁ ≡ ramp (set l 0 b) 1 (b + 2 * u) u 5 → l₁ ≡ tab (number_at b u true m) 6 ++ drop 6 l
-  pentagon-6 l₁ h k q = q ∙ ramped (number_at b u true m) l (set l 0 b) 1 (b + 2 * u) u 5 k (λ j. pentagon_each b u m j h) (one true (omega arith))
+  pub pentagon_6 : (l₁ : List ℕ) → 1 ≤ m → 6 ≤ length l → l₁ ≡ ramp (set l 0 b) 1 (b + 2 * u) u 5 → l₁ ≡ tab (number_at b u true m) 6 ++ drop 6 l
+  pentagon_6 l₁ h k q = q ∙ ramped (number_at b u true m) l (set l 0 b) 1 (b + 2 * u) u 5 k (λ j. pentagon_each b u m j h) (one true (omega arith))
 
-  pub pentagon-41 : (l₁ l₂ : List ℕ) → 2 ≤ m → 41 ≤ length l → l₁ ≡ ramp (set l 0 b) 1 (b + 2 * u) u 5 → l₂ ≡ stairs l₁ 6 (b + 16 * u) u 5 →
+  pub pentagon_41 : (l₁ l₂ : List ℕ) → 2 ≤ m → 41 ≤ length l → l₁ ≡ ramp (set l 0 b) 1 (b + 2 * u) u 5 → l₂ ≡ stairs l₁ 6 (b + 16 * u) u 5 →
       l₂ ≡ tab (number_at b u true m) 41 ++ drop 41 l
-  pentagon-41 l₁ l₂ h k q₁ q₂ =
+  pentagon_41 l₁ l₂ h k q₁ q₂ =
       q₂ ∙ staired (number_at b u true m) l l₁ 6 (b + 16 * u) u 5 k
       (λ x j g i. sibling true b u m x j (x + 2) (6 + 7 * x + j) (b + 16 * u + x * (8 * u) + j * u) (omega arith) i (pentagon_block (m - 1) x (omega arith) g) (omega arith) (omega arith))
-      (pentagon-6 l₁ (omega arith) (omega arith) q₁)
+      (pentagon_6 l₁ (omega arith) (omega arith) q₁)
 
-  pub pentagon-90 : (l₁ l₂ l₃ : List ℕ) → 3 ≤ m → 90 ≤ length l → l₁ ≡ ramp (set l 0 b) 1 (b + 2 * u) u 5 → l₂ ≡ stairs l₁ 6 (b + 16 * u) u 5 → l₃ ≡ stairs l₂ 41 (b + 128 * u) u 7 →
+  pub pentagon_90 : (l₁ l₂ l₃ : List ℕ) → 3 ≤ m → 90 ≤ length l → l₁ ≡ ramp (set l 0 b) 1 (b + 2 * u) u 5 → l₂ ≡ stairs l₁ 6 (b + 16 * u) u 5 → l₃ ≡ stairs l₂ 41 (b + 128 * u) u 7 →
       l₃ ≡ tab (number_at b u true m) 90 ++ drop 90 l
-  pentagon-90 l₁ l₂ l₃ h k q₁ q₂ q₃ =
+  pentagon_90 l₁ l₂ l₃ h k q₁ q₂ q₃ =
       q₃ ∙ staired (number_at b u true m) l l₂ 41 (b + 128 * u) u 7 k
       (λ x j g i. sibling true b u m (x + 5) j (x + 5 + 11) (41 + 7 * x + j) (b + 128 * u + x * (8 * u) + j * u) (omega arith) i (pentagon_over (m - 1) (x + 5) (omega arith) (omega arith) (omega arith)) (omega arith) (omega arith))
-      (pentagon-41 l₁ l₂ (omega arith) (omega arith) q₁ q₂)
+      (pentagon_41 l₁ l₂ (omega arith) (omega arith) q₁ q₂)
 
 tab_same : (f g : ℕ → ℕ) (k : ℕ) → ((p : ℕ) → p < k → f p ≡ g p) → tab f k ≡ tab g k
 unfolding tab
@@ -72,14 +72,14 @@ module _ (n t : ℕ) (h64 : n < 2 ^ 64) (v : Valid n) (lo : resOf n ≤ t) (hi :
   pub asked : (l : List ℕ) → count_of n t ≤ length l → (m ≤ 15) × (unit * 8 ^ m ≤ 2 ^ 45) × (first < 2 ^ 63) × (count f m ≤ length l)
   asked l h = (
     omega arith,
-    rw (eu, em) (start.unit-room n t h64 v lo hi),
+    rw (eu, em) (start.unit_room n t h64 v lo hi),
     omega (arith, start.child_fits n t h64 v lo hi 0 (start.some_child n t h64 v lo hi)),
     rw (ef, em) h,
   )
 
   each : (p : ℕ) → p < count_of n t → number_at first unit f m p ≡ childAt n t p
   unfolding number_at
-  each p h = rw (ef, e₀, eu, em) (start.child-sum n t h64 v lo hi p h)
+  each p h = rw (ef, e₀, eu, em) (start.child_sum n t h64 v lo hi p h)
 
   pub listed : (b l : List ℕ) → l ≡ tab (number_at first unit f m) (count f m) ++ drop (count f m) b → l ≡ listing n t ++ drop (count_of n t) b
   unfolding listing

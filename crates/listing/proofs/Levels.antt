@@ -50,18 +50,18 @@ pentagon_next j at size a s = rw (add-one, a, s) (sym (count_next j))
 
 module _ (b u m : ℕ) (l₀ l : List ℕ) (top : m ≤ 15) (r : u * 8 ^ m ≤ 2 ^ 45) (g : b < 2 ^ 63) (at size step j : ℕ) where
   module _ (k : count false m ≤ length l₀) (v : Level false b u m l₀ l 0 size step j) where
-    pub hexagon-room : j < m → (1 ≤ size) × (size * 7 ≤ length l) × (size * 7 ≤ 7 ^ 15) × (step * 8 ≤ 2 ^ 45)
-    hexagon-room h =
+    pub hexagon_room : j < m → (1 ≤ size) × (size * 7 ≤ length l) × (size * 7 ≤ 7 ^ 15) × (step * 8 ≤ 2 ^ 45)
+    hexagon_room h =
         let s = sevens_grow j size v.size_is in
         let c = count_mono false (j + 1) m (omega arith) in
         let d = count_small false m top in
         let n = v.long in
         (s.1, omega arith, omega arith, (eights_grow u j m step h r v.step_is).1)
 
-    pub hexagon-turn : j < m → (l' : List ℕ) → l' ≡ copies l size (size * 7 - size) size step → Level false b u m l₀ l' 0 (size * 7) (step * 8) (j + 1)
-    hexagon-turn h l' q =
+    pub hexagon_turn : j < m → (l' : List ℕ) → l' ≡ copies l size (size * 7 - size) size step → Level false b u m l₀ l' 0 (size * 7) (step * 8) (j + 1)
+    hexagon_turn h l' q =
         let s = sevens_grow j size v.size_is in
-        let o = hexagon-room h in
+        let o = hexagon_room h in
         let i = v.size_is in
         let w = v.step_is in
         let n = v.long in
@@ -77,15 +77,15 @@ module _ (b u m : ℕ) (l₀ l : List ℕ) (top : m ≤ 15) (r : u * 8 ^ m ≤ 2
           list = rw e' (spread (number_at b u false m) _ 0 (7 ^ j) (u * 8 ^ j) (sevens_pos j) (blocked false b u m j (omega arith)) 1 7 1 1 (omega arith) up (omega arith) (omega arith) (number_fits b u m false r g) l₀ l l' size (size * 7) size step (omega arith) (omega arith) (omega arith) (omega arith) (omega arith) (rw e at v.list) q);
         }
 
-    pub hexagon-done : j ≡ m → l ≡ tab (number_at b u false m) (count false m) ++ drop (count false m) l₀
-    hexagon-done e =
+    pub hexagon_done : j ≡ m → l ≡ tab (number_at b u false m) (count false m) ++ drop (count false m) l₀
+    hexagon_done e =
         let z : 0 + size ≡ count false m = ap (λ (x : ℕ). 0 + x) v.size_is ∙ rw e (omega arith) in
         rw z at v.list
 
   module _ (k : count true m ≤ length l₀) (v : Level true b u m l₀ l at size step j) where
     -- blocks 2 to 5
-    pub pentagon-blocks : j < m → (l' : List ℕ) → l' ≡ copies l (at + size) (at + 5 * size - (at + size)) size step → l' ≡ tab (number_at b u true m) (at + 5 * size) ++ drop (at + 5 * size) l₀
-    pentagon-blocks h l' q =
+    pub pentagon_blocks : j < m → (l' : List ℕ) → l' ≡ copies l (at + size) (at + 5 * size - (at + size)) size step → l' ≡ tab (number_at b u true m) (at + 5 * size) ++ drop (at + 5 * size) l₀
+    pentagon_blocks h l' q =
         let c = count_mono true (j + 1) m (omega arith) in
         let d = pentagon_next j at size v.at_is v.size_is in
         let a = v.at_is in
@@ -95,8 +95,8 @@ module _ (b u m : ℕ) (l₀ l : List ℕ) (top : m ≤ 15) (r : u * 8 ^ m ≤ 2
         λ x y z. pentagon_block (m - j) x (omega arith) z ∙ omega (arith, pentagon_block (m - j) (x - 1) (omega arith) (omega arith)) in
         spread (number_at b u true m) _ (count true j) (7 ^ j) (u * 8 ^ j) (sevens_pos j) (blocked true b u m j (omega arith)) 1 5 1 1 (omega arith) up (omega arith) (omega arith) (number_fits b u m true r g) l₀ l l' (at + size) (at + 5 * size) size step (omega arith) (omega arith) (omega arith) (omega arith) (omega arith) v.list q
 
-    pub pentagon-room : j < m - 1 → (1 ≤ size) × (at + 12 * size ≤ length l) × (at + 12 * size ≤ 7 ^ 15) × (step * 8 ≤ 2 ^ 45)
-    pentagon-room h =
+    pub pentagon_room : j < m - 1 → (1 ≤ size) × (at + 12 * size ≤ length l) × (at + 12 * size ≤ 7 ^ 15) × (step * 8 ≤ 2 ^ 45)
+    pentagon_room h =
         let s = sevens_grow j size v.size_is in
         let d = pentagon_next j at size v.at_is v.size_is in
         let d' = pentagon_next (j + 1) (at + 5 * size) (size * 7) d s.0 in
@@ -110,23 +110,23 @@ module _ (b u m : ℕ) (l₀ l : List ℕ) (top : m ≤ 15) (r : u * 8 ^ m ≤ 2
         past a s c m e h o = omega arith
 
     -- blocks 6 to 12, which are the first of the next level
-    pub pentagon-turn : j < m - 1 → (l₁ l₂ l₃ : List ℕ) → l₁ ≡ copies l (at + size) (at + 5 * size - (at + size)) size step →
+    pub pentagon_turn : j < m - 1 → (l₁ l₂ l₃ : List ℕ) → l₁ ≡ copies l (at + size) (at + 5 * size - (at + size)) size step →
         l₂ ≡ copies l₁ (at + 5 * size) (at + 5 * size + size - (at + 5 * size)) (5 * size) (14 * step) →
         l₃ ≡ copies l₂ (at + 5 * size + size) (at + 5 * size + 7 * size - (at + 5 * size + size)) size step →
         Level true b u m l₀ l₃ (at + 5 * size) (size * 7) (step * 8) (j + 1)
-    pentagon-turn h l₁ l₂ l₃ q₁ q₂ q₃ =
+    pentagon_turn h l₁ l₂ l₃ q₁ q₂ q₃ =
         let f = number_at b u true m in
         let a = v.at_is in
         let i = v.size_is in
         let w = v.step_is in
         let n = v.long in
-        let o = pentagon-room h in
+        let o = pentagon_room h in
         let high : (x : ℕ) → 5 ≤ x → x < 12 → octal (below true (m - j) (suc x)) ≡ x + 11 = λ x y z. pentagon_over (m - j) x (omega arith) y z in
         let six : (x : ℕ) → 5 ≤ x → x < 6 → octal (below true (m - j) (suc x)) ≡ octal (below true (m - j) (suc (x - 5))) + 14 =
         λ x y z. high x y (omega arith) ∙ omega (arith, pentagon_block (m - j) (x - 5) (omega arith) (omega arith)) in
         let rest : (x : ℕ) → 6 ≤ x → x < 12 → octal (below true (m - j) (suc x)) ≡ octal (below true (m - j) (suc (x - 1))) + 1 =
         λ x y z. high x (omega arith) z ∙ omega (arith, high (x - 1) (omega arith) (omega arith)) in
-        let e₁ = pentagon-blocks (omega arith) l₁ q₁ in
+        let e₁ = pentagon_blocks (omega arith) l₁ q₁ in
         let e₂ = spread f _ (count true j) (7 ^ j) (u * 8 ^ j) (sevens_pos j) (blocked true b u m j (omega arith)) 5 6 5 14 (omega arith) six (omega arith) (omega arith) (number_fits b u m true r g) l₀ l₁ l₂ (at + 5 * size) (at + 5 * size + size) (5 * size) (14 * step) (omega arith) (omega arith) (omega arith) (omega arith) (omega arith) e₁ q₂ in
         let e₃ = spread f _ (count true j) (7 ^ j) (u * 8 ^ j) (sevens_pos j) (blocked true b u m j (omega arith)) 6 12 1 1 (omega arith) rest (omega arith) (omega arith) (number_fits b u m true r g) l₀ l₂ l₃ (at + 5 * size + size) (at + 5 * size + 7 * size) size step (omega arith) (omega arith) (omega arith) (omega arith) (omega arith) e₂ q₃ in
         let z : at + 5 * size + 7 * size ≡ at + 5 * size + size * 7 = omega arith in
@@ -138,8 +138,8 @@ module _ (b u m : ℕ) (l₀ l : List ℕ) (top : m ≤ 15) (r : u * 8 ^ m ≤ 2
           list = rw z at e₃;
         }
 
-    pub pentagon-last : j + 1 ≡ m → (1 ≤ size) × (at + 5 * size ≡ count true m) × (at + 5 * size ≤ length l) × (at + 5 * size ≤ 7 ^ 15)
-    pentagon-last e =
+    pub pentagon_last : j + 1 ≡ m → (1 ≤ size) × (at + 5 * size ≡ count true m) × (at + 5 * size ≤ length l) × (at + 5 * size ≤ 7 ^ 15)
+    pentagon_last e =
         let d = pentagon_next j at size v.at_is v.size_is ∙ ap (λ (x : ℕ). count true x) e in
         let o = count_small true m top in
         let n = v.long in

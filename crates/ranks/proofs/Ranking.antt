@@ -15,7 +15,7 @@ use Rattle.index.proofs.View.{run_lt}
 use Rattle.descent.specs.Descendants.{pentagon, count}
 use Rattle.descent.specs.Positions.{below, rank, seg}
 use Rattle.descent.proofs.Counts.{ones, ones_six}
-use Rattle.descent.proofs.Exact.{digits-back}
+use Rattle.descent.proofs.Exact.{digits_back}
 use Rattle.descent.proofs.Ancestors.{ancestor_above, own_is, owner_fits, owner_valid, owner_low}
 use Rattle.descent.proofs.Shifts.{Led, octal_sixteen, led, led_most, led_long, shifted}
 
@@ -45,7 +45,7 @@ module _ (n own m x u v : ℕ) (f : Bool) (h64 : n < 2 ^ 64) (ok : Valid n) (e :
   back =
       let a : ℕ = ancestorOf n own in
       let r = own_is n own h64 ok low in
-      let d = digits-back a (resOf n) (owner_fits n own h64 ok low) (owner_valid n own h64 ok low) (owner_low n own h64 ok low) (omega arith) n (ancestor_above n own h64 ok low) in
+      let d = digits_back a (resOf n) (owner_fits n own h64 ok low) (owner_valid n own h64 ok low) (owner_low n own h64 ok low) (omega arith) n (ancestor_above n own h64 ok low) in
       moved (pentagon a) f n (resOf a) (resOf n - resOf a) own m ef r (omega arith) d
 
   word : v ≡ octal xs
@@ -61,8 +61,8 @@ module _ (n own m x u v : ℕ) (f : Bool) (h64 : n < 2 ^ 64) (ok : Valid n) (e :
     reads : (q : ℕ) → q < 7 ^ m → octal xs ≡ octal (below false m q) → p ≡ q
     reads q h g = let s = octal_sixteen m q (omega arith) h in ep q s.0 (word ∙ g ∙ s.1)
 
-    pub below-hexagon : f ≡ false → p ≡ rank f xs
-    below-hexagon g = let b = rw g at back in rw g (reads (rank false xs) b.1 (ap octal (sym b.0)))
+    pub below_hexagon : f ≡ false → p ≡ rank f xs
+    below_hexagon g = let b = rw g at back in rw g (reads (rank false xs) b.1 (ap octal (sym b.0)))
 
     module _ (g : f ≡ true) where
       b : Back true n own m
@@ -87,8 +87,8 @@ module _ (n own m x u v : ℕ) (f : Bool) (h64 : n < 2 ^ 64) (ok : Valid n) (e :
       pub zeros_few : (count_leading_zeros 64 v ≤ 64) × ((66 - count_leading_zeros 64 v) / 3 ≤ 15)
       zeros_few = let t = taken.1 in (leading_le 64 v, omega (arith, t.few, t.long))
 
-      pub below-pentagon : (s : ℕ) → s ≡ 7 ^ ((66 - count_leading_zeros 64 v) / 3) → ((s - 1) / 6 ≤ p) × (p - (s - 1) / 6 ≡ rank f xs)
-      below-pentagon s es =
+      pub below_pentagon : (s : ℕ) → s ≡ 7 ^ ((66 - count_leading_zeros 64 v) / 3) → ((s - 1) / 6 ≤ p) × (p - (s - 1) / 6 ≡ rank f xs)
+      below_pentagon s es =
           let t = taken.1 in
           let z : (s - 1) / 6 ≡ ones taken.0 = rw (es, t.long) (ones_six taken.0) in
           (omega (arith, z, t.sum), omega (arith, z, t.sum))

@@ -18,23 +18,23 @@ module _ {A : Type 0} (a r s : A) where
   one_out p q = p ∙ sym q
 
   -- with a lent buffer, and with two
-  pub one-out-lent : (b x y : List ℕ) → (r ≡ a) × (x ≡ b) → (s ≡ a) × (y ≡ b) → (r ≡ s) × (x ≡ y)
-  one-out-lent b x y p q = (p.0 ∙ sym q.0, p.1 ∙ sym q.1)
+  pub one_out_lent : (b x y : List ℕ) → (r ≡ a) × (x ≡ b) → (s ≡ a) × (y ≡ b) → (r ≡ s) × (x ≡ y)
+  one_out_lent b x y p q = (p.0 ∙ sym q.0, p.1 ∙ sym q.1)
 
-  pub one-out-blocks : (b c x y v w : List ℕ) → (r ≡ a) × (x ≡ b) × (v ≡ c) → (s ≡ a) × (y ≡ b) × (w ≡ c) → (r ≡ s) × (x ≡ y) × (v ≡ w)
-  one-out-blocks b c x y v w p q = (p.0 ∙ sym q.0, p.1 ∙ sym q.1, p.2 ∙ sym q.2)
+  pub one_out_blocks : (b c x y v w : List ℕ) → (r ≡ a) × (x ≡ b) × (v ≡ c) → (s ≡ a) × (y ≡ b) × (w ≡ c) → (r ≡ s) × (x ≡ y) × (v ≡ w)
+  one_out_blocks b c x y v w p q = (p.0 ∙ sym q.0, p.1 ∙ sym q.1, p.2 ∙ sym q.2)
 
 module _ (k : ℕ) (r s : RgChecked) where
-  pub one-checked-out : (r.refusal ≡ k) × (r.zero ≡ 0) → (s.refusal ≡ k) × (s.zero ≡ 0) → r ≡ s
-  one-checked-out p q = let f = p.0 ∙ sym q.0 in let z = p.1 ∙ sym q.1 in λ i. record { refusal = f i; zero = z i }
+  pub one_checked_out : (r.refusal ≡ k) × (r.zero ≡ 0) → (s.refusal ≡ k) × (s.zero ≡ 0) → r ≡ s
+  one_checked_out p q = let f = p.0 ∙ sym q.0 in let z = p.1 ∙ sym q.1 in λ i. record { refusal = f i; zero = z i }
 
-  pub one-cursor-out : (b x y : List ℕ) → (r.refusal ≡ k) × (r.zero ≡ 0) × (x ≡ b) → (s.refusal ≡ k) × (s.zero ≡ 0) × (y ≡ b) → (r ≡ s) × (x ≡ y)
-  one-cursor-out b x y p q = (one-checked-out (p.0, p.1) (q.0, q.1), p.2 ∙ sym q.2)
+  pub one_cursor_out : (b x y : List ℕ) → (r.refusal ≡ k) × (r.zero ≡ 0) × (x ≡ b) → (s.refusal ≡ k) × (s.zero ≡ 0) × (y ≡ b) → (r ≡ s) × (x ≡ y)
+  one_cursor_out b x y p q = (one_checked_out (p.0, p.1) (q.0, q.1), p.2 ∙ sym q.2)
 
 module _ (length : ℕ) (p : IJK) where
   one_outcome : (x : Outcome (Unit {0})) (o q : Outcome ℕ) → Under x (Reads length p) o → Under x (Reads length p) q → o ≡ q
   one_outcome (answered u) o q a b = one_reading length p o q a b
   one_outcome (refused k) o q a b = a ∙ sym b
 
-  pub one-read-back-out : (r s : RgNumber) → ReadsBackOut length p r → ReadsBackOut length p s → r ≡ s
-  one-read-back-out r s a b = a.2 ∙ ap numberOut (one_outcome (judged (resolutionRule length ∷ rangeRule p ∷ []) tt) a.0 b.0 a.1 b.1) ∙ sym b.2
+  pub one_read_back_out : (r s : RgNumber) → ReadsBackOut length p r → ReadsBackOut length p s → r ≡ s
+  one_read_back_out r s a b = a.2 ∙ ap numberOut (one_outcome (judged (resolutionRule length ∷ rangeRule p ∷ []) tt) a.0 b.0 a.1 b.1) ∙ sym b.2

@@ -9,7 +9,7 @@ use borrow.Author.Tests.{ltb-false}
 use Rattle.index.specs.Layout.{Valid}
 use Rattle.index.specs.Refusals.{Rule, Outcome, answered, refused, judged, Clear}
 use Rattle.index.specs.Check.{cellRules}
-use Rattle.index.proofs.Rules.{never, answered-clear, clear_parts}
+use Rattle.index.proofs.Rules.{never, answered_clear, clear_parts}
 use Rattle.index.proofs.Validity.{clear_valid}
 use Rattle.walks.specs.Walks.{carryOf}
 use Rattle.grid.specs.Steps.{Answer, inside, leaves}
@@ -33,7 +33,7 @@ clear : (rules : List Rule) (s : Outcome Answer) (x : Answer) → after (judged 
 clear rules s x e = go (judged rules tt) refl e
   where
     go : (o : Outcome (Unit {0})) → judged rules tt ≡ o → after o s ≡ answered x → Clear rules × (s ≡ answered x)
-    go (answered u) q e = (answered-clear rules tt u q, e)
+    go (answered u) q e = (answered_clear rules tt u q, e)
     go (refused k) q e = absurd (never (sym e))
 
 same_way : (x : Outcome Answer) (w k : ℕ) → x ≡ answered (leaves w) → x ≡ answered (leaves k) → w ≡ k

@@ -18,7 +18,7 @@ use Rattle.index.specs.Layout.{resOf, base_of, isPentagonal, Valid}
 use Rattle.index.specs.View.{used, pack, first, Fit}
 use Rattle.turns.specs.Turns.{turnedBy, pentagonCount, pentagonTurned}
 use Rattle.index.proofs.Runs.{length_used}
-use Rattle.index.proofs.View.{packed, fit, pack-valid, pack_res, pack_base}
+use Rattle.index.proofs.View.{packed, fit, pack_valid, pack_res, pack_base}
 use Rattle.index.proofs.Loose.{loose_base, loose_res, loose_used}
 
 -- strings
@@ -100,8 +100,8 @@ module _ (o : Bool) (n : ℕ) (v : Valid n) where
   ds = used n (resOf n)
 
   -- turned by a count all but the last rule of a cell are kept
-  pub fit-turned : (k : ℕ) → (isPentagonal (base_of n) ≡ true → turns o k (first ds) ≡ 1 → ⊥) → Fit (base_of n) (map (turns o k) ds)
-  fit-turned k kept =
+  pub fit_turned : (k : ℕ) → (isPentagonal (base_of n) ≡ true → turns o k (first ds) ≡ 1 → ⊥) → Fit (base_of n) (map (turns o k) ds)
+  fit_turned k kept =
       let f = fit n v in
       record {
         base = f.base;
@@ -126,19 +126,19 @@ module _ (o : Bool) (n : ℕ) (v : Valid n) where
     unfolding turnedBy
     turned_res = loose_res (base_of n) (map (turns o k) ds) base_room room (digits_turned o k ds (fit n v).digits) ∙ length_turned o k ds ∙ length_used n (resOf n)
 
-    pub turned-used : used (turnedBy o k n) (resOf n) ≡ map (turns o k) ds
+    pub turned_used : used (turnedBy o k n) (resOf n) ≡ map (turns o k) ds
     unfolding turnedBy
-    turned-used =
+    turned_used =
         subst (λ (r : ℕ). used (pack (base_of n) (map (turns o k) ds)) r ≡ map (turns o k) ds) (length_turned o k ds ∙ length_used n (resOf n))
         (loose_used (base_of n) (map (turns o k) ds) base_room room (digits_turned o k ds (fit n v).digits))
 
   pub fit_pentagon_turned : Fit (base_of n) (map (turns o (pentagonCount o ds)) ds)
-  fit_pentagon_turned = fit-turned (pentagonCount o ds) (λ q. pentagon_first o (first ds) (first_below ds (fit n v).digits))
+  fit_pentagon_turned = fit_turned (pentagonCount o ds) (λ q. pentagon_first o (first ds) (first_below ds (fit n v).digits))
 
   -- also in hexagon base cells
   pub pentagon_turned_valid : Valid (pentagonTurned o n)
   unfolding pentagonTurned turnedBy
-  pentagon_turned_valid = pack-valid (base_of n) (map (turns o (pentagonCount o ds)) ds) fit_pentagon_turned
+  pentagon_turned_valid = pack_valid (base_of n) (map (turns o (pentagonCount o ds)) ds) fit_pentagon_turned
 
   pub pentagon_turned_base : base_of (pentagonTurned o n) ≡ base_of n
   unfolding pentagonTurned turnedBy
@@ -148,9 +148,9 @@ module _ (o : Bool) (n : ℕ) (v : Valid n) where
   unfolding pentagonTurned turnedBy
   pentagon_turned_res = pack_res (base_of n) (map (turns o (pentagonCount o ds)) ds) fit_pentagon_turned ∙ length_turned o (pentagonCount o ds) ds ∙ length_used n (resOf n)
 
-  pub pentagon-turned-coarsest : n < 2 ^ 64 → resOf n ≡ 0 → pentagonTurned o n ≡ n
+  pub pentagon_turned_coarsest : n < 2 ^ 64 → resOf n ≡ 0 → pentagonTurned o n ≡ n
   unfolding pentagonTurned turnedBy used
-  pentagon-turned-coarsest h e = coarsest (resOf n) e (packed n h v)
+  pentagon_turned_coarsest h e = coarsest (resOf n) e (packed n h v)
     where
       coarsest : (r : ℕ) → r ≡ 0 → pack (base_of n) (used n r) ≡ n → pack (base_of n) (map (turns o (pentagonCount o (used n r))) (used n r)) ≡ n
       coarsest zero e p = p

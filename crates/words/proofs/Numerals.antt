@@ -47,19 +47,19 @@ grows : (n base d : ℕ) → 1 < base → n ≤ n * base + d
 grows n base d h = let p : n * 1 ≤ n * base = mul-le-mul_left n (omega arith) in omega arith
 
 module _ (base : ℕ) (bs : List ℕ) (b : ℕ) where
-  pub beyond-stays : 1 < base → Beyond base bs → Beyond base (bs ++ (b ∷ []))
-  beyond-stays h (inl e) = inl (digits_snoc base bs b ∙ ap (λ (t : Bool). t && ltb (digitOf b) base) e)
-  beyond-stays h (inr l) = inr (rw (onward_snoc base 0 bs b) (omega (arith, grows (value base bs) base (digitOf b) h)))
+  pub beyond_stays : 1 < base → Beyond base bs → Beyond base (bs ++ (b ∷ []))
+  beyond_stays h (inl e) = inl (digits_snoc base bs b ∙ ap (λ (t : Bool). t && ltb (digitOf b) base) e)
+  beyond_stays h (inr l) = inr (rw (onward_snoc base 0 bs b) (omega (arith, grows (value base bs) base (digitOf b) h)))
 
-  pub beyond-digit : base ≤ digitOf b → Beyond base (bs ++ (b ∷ []))
-  beyond-digit h = inl (digits_snoc base bs b ∙ ap (λ (t : Bool). digits base bs && t) (le-ltb (digitOf b) base h) ∙ and_false (digits base bs))
+  pub beyond_digit : base ≤ digitOf b → Beyond base (bs ++ (b ∷ []))
+  beyond_digit h = inl (digits_snoc base bs b ∙ ap (λ (t : Bool). digits base bs && t) (le-ltb (digitOf b) base h) ∙ and_false (digits base bs))
 
   module _ (n : ℕ) (w : Within base n bs) where
     value_snoc : value base (bs ++ (b ∷ [])) ≡ n * base + digitOf b
     value_snoc = onward_snoc base 0 bs b ∙ ap (λ (v : ℕ). v * base + digitOf b) w.1
 
-    pub beyond-large : 2 ^ 64 ≤ n * base + digitOf b → Beyond base (bs ++ (b ∷ []))
-    beyond-large h = inr (rw value_snoc h)
+    pub beyond_large : 2 ^ 64 ≤ n * base + digitOf b → Beyond base (bs ++ (b ∷ []))
+    beyond_large h = inr (rw value_snoc h)
 
     pub within_more : digitOf b < base → Within base (n * base + digitOf b) (bs ++ (b ∷ []))
     within_more h =
@@ -74,13 +74,13 @@ module _ (base : ℕ) (some : 1 < base) where
   no_room n d h = let p : 2 ^ 64 - 1 - d < n * base = (div-lt_iff_lt-mul {k = base} (omega arith)).0 h in omega arith
 
   -- k digits are below the k-th power
-  pub onward-below : (n : ℕ) (bs : List ℕ) → digits base bs ≡ true → onward base n bs < (n + 1) * base ^ length bs
+  pub onward_below : (n : ℕ) (bs : List ℕ) → digits base bs ≡ true → onward base n bs < (n + 1) * base ^ length bs
   unfolding digits onward
-  onward-below n [] h = rw pow-zero (omega arith)
-  onward-below n (b ∷ bs) h =
+  onward_below n [] h = rw pow-zero (omega arith)
+  onward_below n (b ∷ bs) h =
       let e = and_both (ltb (digitOf b) base) (digits base bs) h in
       let l = ltb-true (digitOf b) base e.0 in
       let step : n * base + digitOf b + 1 ≤ (n + 1) * base = omega arith in
       let p : (n * base + digitOf b + 1) * base ^ length bs ≤ (n + 1) * base * base ^ length bs = mul-le-mul_right (base ^ length bs) step in
-      let q = onward-below (n * base + digitOf b) bs e.1 in
+      let q = onward_below (n * base + digitOf b) bs e.1 in
       rw pow-suc (omega (arith, p, q))

@@ -20,17 +20,17 @@ use Rattle.words.specs.declared.word.Small.{Small}
 use Rattle.words.specs.declared.word.Signed.{Signed}
 use Rattle.words.specs.declared.word.Number.{Number}
 use Rattle.words.specs.contracts.word.Number as number-type
-use Rattle.words.proofs.Numerals.{and_false, and_both, length_snoc, onward-below}
+use Rattle.words.proofs.Numerals.{and_false, and_both, length_snoc, onward_below}
 
 module _ (base : ℕ) (d : Digits) (bs : List ℕ) where
-  pub was-lost : Spells base d bs → d.lost ≡ true → Beyond base bs
-  was-lost s e = subst (λ (t : Bool). held t base d.value bs) e s.holds
+  pub was_lost : Spells base d bs → d.lost ≡ true → Beyond base bs
+  was_lost s e = subst (λ (t : Bool). held t base d.value bs) e s.holds
 
-  pub was-kept : Spells base d bs → d.lost ≡ false → Within base d.value bs
-  was-kept s e = subst (λ (t : Bool). held t base d.value bs) e s.holds
+  pub was_kept : Spells base d bs → d.lost ≡ false → Within base d.value bs
+  was_kept s e = subst (λ (t : Bool). held t base d.value bs) e s.holds
 
-  pub now-lost : (n : ℕ) → (d.lost ≡ true) × (d.count ≡ n) → n ≡ min (length bs) 17 → Beyond base bs → Spells base d bs
-  now-lost n e l h = record { long = e.1 ∙ l; holds = subst (λ (t : Bool). held t base d.value bs) (sym e.0) h }
+  pub now_lost : (n : ℕ) → (d.lost ≡ true) × (d.count ≡ n) → n ≡ min (length bs) 17 → Beyond base bs → Spells base d bs
+  now_lost n e l h = record { long = e.1 ∙ l; holds = subst (λ (t : Bool). held t base d.value bs) (sym e.0) h }
 
   pub counts : (n b : ℕ) → n ≡ min (d.count + 1) 17 → Spells base d bs → n ≡ min (length (bs ++ (b ∷ []))) 17
   counts n b e s = rw (length_snoc bs b) (omega (arith, e, s.long))
@@ -98,33 +98,33 @@ nothing (Number.Value n) o = absurd (suc-ne-zero 0 (sym o))
 nothing Number.Nothing o = refl
 
 module _ (bs : List ℕ) where
-  pub small-none : Number.Nothing ≡ natural64 bs → Small.Nothing ≡ natural32 bs
-  small-none e = rw (untold bs (2 ^ 32) e (omega arith))
+  pub small_none : Number.Nothing ≡ natural64 bs → Small.Nothing ≡ natural32 bs
+  small_none e = rw (untold bs (2 ^ 32) e (omega arith))
 
   module _ (n : ℕ) (e : Number.Value n ≡ natural64 bs) where
-    pub small-large : 2 ^ 32 ≤ n → Small.Nothing ≡ natural32 bs
-    small-large h = rw ((told bs n e).1 (2 ^ 32), le-ltb n (2 ^ 32) h)
+    pub small_large : 2 ^ 32 ≤ n → Small.Nothing ≡ natural32 bs
+    small_large h = rw ((told bs n e).1 (2 ^ 32), le-ltb n (2 ^ 32) h)
 
-    pub small-fits : n < 2 ^ 32 → Small.Value n ≡ natural32 bs
-    small-fits h = rw ((told bs n e).1 (2 ^ 32), lt-ltb n (2 ^ 32) h, ← (told bs n e).0)
+    pub small_fits : n < 2 ^ 32 → Small.Value n ≡ natural32 bs
+    small_fits h = rw ((told bs n e).1 (2 ^ 32), lt-ltb n (2 ^ 32) h, ← (told bs n e).0)
 
 either_way : (t : Bool) → cond t Signed.Nothing Signed.Nothing ≡ Signed.Nothing
 either_way true = refl
 either_way false = refl
 
 module _ (bs : List ℕ) where
-  pub signed-none : Number.Nothing ≡ natural 10 (bare bs) → Signed.Nothing ≡ integer32 bs
-  signed-none e = rw (untold (bare bs) (2 ^ 31 + 1) e (omega arith), untold (bare bs) (2 ^ 31) e (omega arith), either_way)
+  pub signed_none : Number.Nothing ≡ natural 10 (bare bs) → Signed.Nothing ≡ integer32 bs
+  signed_none e = rw (untold (bare bs) (2 ^ 31 + 1) e (omega arith), untold (bare bs) (2 ^ 31) e (omega arith), either_way)
 
   module _ (n : ℕ) (e : Number.Value n ≡ natural 10 (bare bs)) where
-    pub signed-minus : minus bs ≡ true → negated n ≡ integer32 bs
-    signed-minus m = rw (m, (told (bare bs) n e).1 (2 ^ 31 + 1), ← (told (bare bs) n e).0)
+    pub signed_minus : minus bs ≡ true → negated n ≡ integer32 bs
+    signed_minus m = rw (m, (told (bare bs) n e).1 (2 ^ 31 + 1), ← (told (bare bs) n e).0)
 
-    pub signed-large : minus bs ≡ false → 2 ^ 31 ≤ n → Signed.Nothing ≡ integer32 bs
-    signed-large m h = rw (m, (told (bare bs) n e).1 (2 ^ 31), le-ltb n (2 ^ 31) h)
+    pub signed_large : minus bs ≡ false → 2 ^ 31 ≤ n → Signed.Nothing ≡ integer32 bs
+    signed_large m h = rw (m, (told (bare bs) n e).1 (2 ^ 31), le-ltb n (2 ^ 31) h)
 
-    pub signed-fits : minus bs ≡ false → n < 2 ^ 31 → Signed.Value (pos n) ≡ integer32 bs
-    signed-fits m h = rw (m, (told (bare bs) n e).1 (2 ^ 31), lt-ltb n (2 ^ 31) h, ← (told (bare bs) n e).0)
+    pub signed_fits : minus bs ≡ false → n < 2 ^ 31 → Signed.Value (pos n) ≡ integer32 bs
+    signed_fits m h = rw (m, (told (bare bs) n e).1 (2 ^ 31), lt-ltb n (2 ^ 31) h, ← (told (bare bs) n e).0)
 
 -- 16 hexadecimal digits fit 64 bits
 pub hexadecimal_long : (bs : List ℕ) → 16 < length bs → Number.Nothing ≡ hexadecimal bs
@@ -132,7 +132,7 @@ hexadecimal_long bs h = rw (lt-leb (length bs) 16 h, and_false (ltb 0 (length bs
 
 fits_when : (bs : List ℕ) → length bs ≤ 16 → digits 16 bs ≡ true → value 16 bs < 2 ^ 64
 fits_when bs h e =
-    let p = onward-below 16 (omega arith) 0 bs e in
+    let p = onward_below 16 (omega arith) 0 bs e in
     let q : 16 ^ length bs ≤ 16 ^ 16 = pow-le-pow_right {n = 16} (omega arith) {i = length bs} {j = 16} h in
     omega (arith, p, q)
 
@@ -159,10 +159,10 @@ bare_same (b ∷ bs) h = rw h
 
 -- one byte more of a word
 module _ (w : Word) (f : Digits) (b : ℕ) where
-  pub reads-minus : (bs : List ℕ) → length bs ≡ 0 → b ≡ 45 → Spells 16 f (bs ++ (b ∷ [])) → Reads w bs
+  pub reads_minus : (bs : List ℕ) → length bs ≡ 0 → b ≡ 45 → Spells 16 f (bs ++ (b ∷ [])) → Reads w bs
       → Reads (record { minus = true; hex = f; decimal = w.decimal }) (bs ++ (b ∷ []))
-  reads-minus [] l e h s = record { sign = rw e; hex = h; decimal = rw e s.decimal }
-  reads-minus (x ∷ bs) l e h s = absurd (omega arith)
+  reads_minus [] l e h s = record { sign = rw e; hex = h; decimal = rw e s.decimal }
+  reads_minus (x ∷ bs) l e h s = absurd (omega arith)
 
   pub reads_more : (bs : List ℕ) (g : Digits) → (length bs ≡ 0 → b ≡ 45 → ⊥) → Spells 16 f (bs ++ (b ∷ []))
       → ((ds : List ℕ) → Spells 10 w.decimal ds → Spells 10 g (ds ++ (b ∷ []))) → Reads w bs

@@ -35,8 +35,8 @@ last_snoc xs x d i e =
 
 -- the first 16 bytes
 module _ (l : Line) (b : ℕ) where
-  pub notes-full : 16 ≤ l.length → Notes l b l
-  notes-full h = record { begun = full; words = refl; count = refl; word = refl }
+  pub notes_full : 16 ≤ l.length → Notes l b l
+  notes_full h = record { begun = full; words = refl; count = refl; word = refl }
     where
       full : (bs : List ℕ) → Begun l bs → Begun l (bs ++ (b ∷ []))
       full bs s =
@@ -47,9 +47,9 @@ module _ (l : Line) (b : ℕ) where
             same = s.same ∙ sym (take-append-le 16 bs (b ∷ []) k);
           }
 
-  pub notes-more : l.length < 16
+  pub notes_more : l.length < 16
       → Notes l b (record { head = set l.head l.length b; length = l.length + 1; words = l.words; count = l.count; word = l.word })
-  notes-more h = record { begun = more; words = refl; count = refl; word = refl }
+  notes_more h = record { begun = more; words = refl; count = refl; word = refl }
     where
       more : (bs : List ℕ) → Begun l bs
           → Begun (record { head = set l.head l.length b; length = l.length + 1; words = l.words; count = l.count; word = l.word }) (bs ++ (b ∷ []))
@@ -70,8 +70,8 @@ module _ (l : Line) (b : ℕ) where
 
 -- a word more
 module _ (l : Line) (v : Word) (ws : List (List ℕ)) (w : List ℕ) (s : Holds l ws) where
-  pub holds-full : 8 ≤ l.count → Holds (record { head = l.head; length = l.length; words = l.words; count = 9; word = v }) (ws ++ (w ∷ []))
-  holds-full h =
+  pub holds_full : 8 ≤ l.count → Holds (record { head = l.head; length = l.length; words = l.words; count = 9; word = v }) (ws ++ (w ∷ []))
+  holds_full h =
       record {
         many = rw (length_snoc ws w) (omega (arith, s.many, h));
         wide = s.wide;
@@ -123,17 +123,17 @@ holds_same l r ws w n s = record { many = n ∙ s.many; wide = ap length w ∙ s
 
 -- a byte more
 module _ (l m : Line) (b : ℕ) (n : Notes l b m) (bs : List ℕ) (s : Scans l bs) where
-  pub scans-blank : (r : Line) → Closes m r → b ≡ 32 → Scans r (bs ++ (b ∷ []))
-  scans-blank r c e =
+  pub scans_blank : (r : Line) → Closes m r → b ≡ 32 → Scans r (bs ++ (b ∷ []))
+  scans_blank r c e =
       record {
         begun = begun_same m r (bs ++ (b ∷ [])) c.head c.long (n.begun bs s.begun);
         ended = rw (parts_snoc bs b, e) (c.more (parts bs).ended (parts bs).next (holds_same l m (parts bs).ended n.words n.count s.ended) (rw n.word s.next));
         next = rw (parts_snoc bs b, e) c.fresh;
       }
 
-  pub scans-more : (w : Word) → ((xs : List ℕ) → Reads m.word xs → Reads w (xs ++ (b ∷ []))) → (b ≡ 32 → ⊥)
+  pub scans_more : (w : Word) → ((xs : List ℕ) → Reads m.word xs → Reads w (xs ++ (b ∷ []))) → (b ≡ 32 → ⊥)
       → Scans (record { head = m.head; length = m.length; words = m.words; count = m.count; word = w }) (bs ++ (b ∷ []))
-  scans-more w f e =
+  scans_more w f e =
       let k = ne_eqb b 32 e in
       let h = holds_same l m (parts bs).ended n.words n.count s.ended in
       let g = n.begun bs s.begun in
@@ -155,8 +155,8 @@ read_at l bs i w e k s h = rw e (s.words.each i k h)
 
 -- beginning so, place by place
 module _ (name xs : List ℕ) (i : ℕ) (n : i < length name) (k : i < length xs) where
-  pub starts-same : get_or xs i 0 ≡ get_or name i 0 → starts_with (drop i name) (drop i xs) ≡ starts_with (drop (i + 1) name) (drop (i + 1) xs)
-  starts-same e = rw (drop-cons name i 0 n, drop-cons xs i 0 k, add-one i, eq-eqb (get_or xs i 0) (get_or name i 0) e)
+  pub starts_same : get_or xs i 0 ≡ get_or name i 0 → starts_with (drop i name) (drop i xs) ≡ starts_with (drop (i + 1) name) (drop (i + 1) xs)
+  starts_same e = rw (drop-cons name i 0 n, drop-cons xs i 0 k, add-one i, eq-eqb (get_or xs i 0) (get_or name i 0) e)
 
   pub starts_other : (get_or xs i 0 ≡ get_or name i 0 → ⊥) → starts_with (drop i name) (drop i xs) ≡ false
   starts_other e = rw (drop-cons name i 0 n, drop-cons xs i 0 k, ne_eqb (get_or xs i 0) (get_or name i 0) e)
@@ -182,14 +182,14 @@ starts_short (a ∷ name) [] h = refl
 starts_short (a ∷ name) (x ∷ xs) h = ap (λ (t : Bool). eqb x a && t) (starts_short name xs (le_of_suc-le-suc h)) ∙ and_false (eqb x a)
 
 module _ (l : Line) (bs name : List ℕ) (words : ℕ) (short : length name ≤ 16) (few : words < 9) (s : Whole l bs) where
-  pub is-count : (l.count ≡ words → ⊥) → false ≡ starts_with name bs && eqb (length (words_of bs)) words
-  is-count h = rw (ne_eqb (length (words_of bs)) words (λ e. h (omega (arith, s.words.many, e, few))), and_false (starts_with name bs))
+  pub is_count : (l.count ≡ words → ⊥) → false ≡ starts_with name bs && eqb (length (words_of bs)) words
+  is_count h = rw (ne_eqb (length (words_of bs)) words (λ e. h (omega (arith, s.words.many, e, few))), and_false (starts_with name bs))
 
-  pub is-short : l.length < length name → false ≡ starts_with name bs && eqb (length (words_of bs)) words
-  is-short h = let k : length bs < length name = omega (arith, s.begun.long, h) in rw (starts_short name bs k)
+  pub is_short : l.length < length name → false ≡ starts_with name bs && eqb (length (words_of bs)) words
+  is_short h = let k : length bs < length name = omega (arith, s.begun.long, h) in rw (starts_short name bs k)
 
-  pub is-so : l.count ≡ words → length name ≤ l.length → starts_with name l.head ≡ starts_with name bs && eqb (length (words_of bs)) words
-  is-so e h =
+  pub is_so : l.count ≡ words → length name ≤ l.length → starts_with name l.head ≡ starts_with name bs && eqb (length (words_of bs)) words
+  is_so e h =
       let k : length (words_of bs) ≡ words = omega (arith, s.words.many, e) in
       rw (eq-eqb (length (words_of bs)) words k, and_true (starts_with name bs))
       (starts_take name l.head l.length h ∙ ap (λ (xs : List ℕ). starts_with name xs) s.begun.same ∙ sym (starts_take name bs 16 short))

@@ -10,7 +10,7 @@ use types.Run
 use Rattle.index.specs.Layout.{Valid}
 use Rattle.index.specs.Refusals.{Rule, ◌when◌, refused, judged}
 use Rattle.index.specs.Check.{cellRules}
-use Rattle.index.proofs.Answers.{of_cell, of_refusal, past-cell, hit-cell}
+use Rattle.index.proofs.Answers.{of_cell, of_refusal, past_cell, hit_cell}
 use Rattle.descent.specs.Positions.{under, position_of, foundOf}
 use Rattle.ranks.specs.Told.{toldFound}
 use Rattle.ranks.specs.declared.rank.Found.{Found}
@@ -65,7 +65,7 @@ unfolding last
 returns c =
     let t = c.before.before.before in
     let s = t.args in
-    ap refused c.refusal.ensures ∙ sym (hit-cell s.first (cellRules s.second ++ last s.first s.second) _ _ (of_refusal s.first s.a c.before.before.match.keys2 t.requires.0))
+    ap refused c.refusal.ensures ∙ sym (hit_cell s.first (cellRules s.second ++ last s.first s.second) _ _ (of_refusal s.first s.a c.before.before.match.keys2 t.requires.0))
 
 returns-2 : tie.Need-returns-2
 unfolding last
@@ -74,7 +74,7 @@ returns-2 c =
     let t = d.before.before.before in
     let s = t.args in
     ap refused c.refusal2.ensures
-    ∙ sym (past-cell s.first (cellRules s.second ++ last s.first s.second) _ (cell d).1 ∙ hit-cell s.second (last s.first s.second) _ _ (of_refusal s.second s.b c.before.before.match2.keys2 t.requires.1))
+    ∙ sym (past_cell s.first (cellRules s.second ++ last s.first s.second) _ (cell d).1 ∙ hit_cell s.second (last s.first s.second) _ _ (of_refusal s.second s.b c.before.before.match2.keys2 t.requires.1))
 
 position-requires : tie.Need-position-requires
 position-requires c κs =
@@ -88,7 +88,7 @@ unfolding last
 both c =
     let d = c.before.before.before in
     let s = d.before.before.before.args in
-    past-cell s.first (cellRules s.second ++ last s.first s.second) _ (cell d).1 ∙ past-cell s.second (last s.first s.second) _ (second c).1
+    past_cell s.first (cellRules s.second ++ last s.first s.second) _ (cell d).1 ∙ past_cell s.second (last s.first s.second) _ (second c).1
 
 -- what the search found, of the numbers themselves
 told : (c : tie.After-position) → let s = c.before.before.before.before.before.before.before.args in toldFound c.position.result ≡ foundOf s.first s.second

@@ -4,8 +4,8 @@ use mathlib.Core.Path.{sym, ap, ◌∙◌}
 use mathlib.Core.List.{[]}
 use Prim.Native.Nat.{ℕ}
 use Rattle.index.specs.Refusals.{refused}
-use Rattle.index.proofs.Answers.{of_cell, of_refusal, past-cell, hit-cell}
-use Rattle.index.proofs.Rules.{none-answered}
+use Rattle.index.proofs.Answers.{of_cell, of_refusal, past_cell, hit_cell}
+use Rattle.index.proofs.Rules.{none_answered}
 use Rattle.cell_entries.proofs.entries.check.Statement.{statement}
 use Rattle.cell_entries.proofs.entries.check.Tie as tie
 
@@ -25,13 +25,13 @@ returns : tie.Need-returns
 returns c =
     let n : ℕ = c.before.before.before.before.args.raw in
     let a = c.before.before.before.check-flat in
-    ap refused c.refusal.ensures ∙ sym (hit-cell n [] tt _ (of_refusal n a.result c.before.before.match.keys2 a.ensures))
+    ap refused c.refusal.ensures ∙ sym (hit_cell n [] tt _ (of_refusal n a.result c.before.before.match.keys2 a.ensures))
 
 returns-2 : tie.Need-returns-2
 returns-2 c =
     let n : ℕ = c.before.before.before.before.args.raw in
     let a = c.before.before.before.check-flat in
-    sym (past-cell n [] tt (of_cell n a.result _ c.before.a.given.1 a.ensures).1 ∙ none-answered tt)
+    sym (past_cell n [] tt (of_cell n a.result _ c.before.a.given.1 a.ensures).1 ∙ none_answered tt)
 
 pub check_spec : {M : Type 1} → statement M
 check_spec = tie.close (tie.spec check-flat-requires enum-known-a enum_told refusal-requires returns returns-2)

@@ -3,9 +3,9 @@ use borrow.Author.Rules.{rules}
 use mathlib.Core.Path.{sym, ap, ap₂, ◌∙◌}
 use mathlib.Core.List.{[]}
 use Rattle.index.specs.Refusals.{answered}
-use Rattle.index.proofs.Rules.{none-answered}
+use Rattle.index.proofs.Rules.{none_answered}
 use Rattle.descent.specs.Descendants.{count_of}
-use Rattle.cell_entries.proofs.Finers.{Ready, ready, asked, refuse-finer, past-finer}
+use Rattle.cell_entries.proofs.Finers.{Ready, ready, asked, refuse_finer, past_finer}
 use Rattle.cell_entries.proofs.entries.count.Statement.{statement}
 use Rattle.cell_entries.proofs.entries.count.Tie as tie
 
@@ -32,7 +32,7 @@ returns : tie.Need-returns
 returns c =
     let s = c.before.before.before.before.before.args in
     let a = c.before.before.before.finer in
-    refuse-finer s.raw s.target [] (count_of s.raw s.target) a.result _ c.before.before.match.keys2 a.ensures c.refusal.ensures
+    refuse_finer s.raw s.target [] (count_of s.raw s.target) a.result _ c.before.before.match.keys2 a.ensures c.refusal.ensures
 
 children-count-requires : tie.Need-children-count-requires
 children-count-requires c κs = asked _ _ _ _ (got c)
@@ -41,7 +41,7 @@ returns-2 : tie.Need-returns-2
 returns-2 c =
     let s = c.before.before.before.before.before.before.args in
     let r = got c.before in
-    ap answered (c.children-count.ensures ∙ ap₂ count_of r.cell r.target) ∙ sym (past-finer s.raw s.target [] _ r.clear ∙ none-answered _)
+    ap answered (c.children-count.ensures ∙ ap₂ count_of r.cell r.target) ∙ sym (past_finer s.raw s.target [] _ r.clear ∙ none_answered _)
 
 pub count_spec : {M : Type 1} → statement M
 count_spec =

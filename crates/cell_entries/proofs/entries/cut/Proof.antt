@@ -8,8 +8,8 @@ use lib.Dec.{ltb}
 use Rattle.index.specs.Layout.{Valid, resOf}
 use Rattle.index.specs.Refusals.{Rule, ◌when◌, answered, refused}
 use Rattle.index.specs.Ancestor.{ancestorOf}
-use Rattle.index.proofs.Answers.{of_cell, of_refusal, past-cell, hit-cell}
-use Rattle.index.proofs.Rules.{past, hit, none-answered}
+use Rattle.index.proofs.Answers.{of_cell, of_refusal, past_cell, hit_cell}
+use Rattle.index.proofs.Rules.{past, hit, none_answered}
 use Rattle.entry.specs.Rules.{resolutionRule}
 use Rattle.cell_entries.proofs.entries.cut.Statement.{statement}
 use Rattle.cell_entries.proofs.entries.cut.Tie as tie
@@ -57,14 +57,14 @@ unfolding more
 returns c =
     let s = c.before.before.before.args in
     let a = c.before.before.before in
-    ap refused c.refusal.ensures ∙ sym (hit-cell s.raw (more s.raw s.coarser) _ _ (of_refusal s.raw a.args.a c.before.before.match.keys2 a.requires))
+    ap refused c.refusal.ensures ∙ sym (hit_cell s.raw (more s.raw s.coarser) _ _ (of_refusal s.raw a.args.a c.before.before.match.keys2 a.requires))
 
 returns-2 : tie.Need-returns-2
 unfolding more
 returns-2 c =
     let s = c.before.before.before.before.before.args in
     let v = cell c.before.before in
-    ap refused c.refusal2.ensures ∙ sym (past-cell s.raw (more s.raw s.coarser) _ v.1 ∙ hit _ _ _ _ (lt-ltb _ _ c.before.if1.true))
+    ap refused c.refusal2.ensures ∙ sym (past_cell s.raw (more s.raw s.coarser) _ v.1 ∙ hit _ _ _ _ (lt-ltb _ _ c.before.if1.true))
 
 returns-3 : tie.Need-returns-3
 unfolding more
@@ -74,7 +74,7 @@ returns-3 c =
     let v = cell d in
     let k = own _ _ _ s.raw v.0 c.before.before.before.resolution-of.ensures c.before.before.resolution-number.ensures in
     ap refused c.refusal3.ensures
-    ∙ sym (past-cell s.raw (more s.raw s.coarser) _ v.1 ∙ past _ _ _ _ (le-ltb _ _ c.before.before.before.before.if1.false) ∙ hit _ _ _ _ (lt-ltb _ _ (subst (λ (x : ℕ). x < s.coarser) k c.before.if2.true)))
+    ∙ sym (past_cell s.raw (more s.raw s.coarser) _ v.1 ∙ past _ _ _ _ (le-ltb _ _ c.before.before.before.before.if1.false) ∙ hit _ _ _ _ (lt-ltb _ _ (subst (λ (x : ℕ). x < s.coarser) k c.before.if2.true)))
 
 -- the wanted resolution is no finer than the cell's
 coarse : (c : tie.After-resolution) → let s = c.before.before.before.before.before.before.before.before.args in s.coarser ≤ resOf s.raw
@@ -100,7 +100,7 @@ returns-4 c =
     let s = d.before.before.before.args in
     let v = cell d in
     ap answered (c.number_of_lem.ensures ∙ c.before.ancestor.ensures ∙ ap₂ ancestorOf v.0 r.resolution.ensures)
-    ∙ sym (past-cell s.raw (more s.raw s.coarser) _ v.1 ∙ past _ _ _ _ (le-ltb _ _ r.before.before.before.before.if1.false) ∙ past _ _ _ _ (le-ltb _ _ (coarse r)) ∙ none-answered _)
+    ∙ sym (past_cell s.raw (more s.raw s.coarser) _ v.1 ∙ past _ _ _ _ (le-ltb _ _ r.before.before.before.before.if1.false) ∙ past _ _ _ _ (le-ltb _ _ (coarse r)) ∙ none_answered _)
 
 pub cut_spec : {M : Type 1} → statement M
 cut_spec =

@@ -9,7 +9,7 @@ use lib.Dec.{ltb}
 use lib.ListN.{length}
 use Rattle.index.specs.Layout.{Valid, resOf}
 use Rattle.index.specs.Refusals.{Rule, ◌when◌, refused}
-use Rattle.index.proofs.Answers.{of_cell, of_refusal, past-cell, hit-cell}
+use Rattle.index.proofs.Answers.{of_cell, of_refusal, past_cell, hit_cell}
 use Rattle.index.proofs.Rules.{past, hit}
 use Rattle.entry.specs.Rules.{resolutionRule}
 use Rattle.cell_entries.specs.Cells.{roomRule, roomOf, listShortOf}
@@ -65,7 +65,7 @@ returns c =
     let b = s.buf.now in
     let a = c.before.before.before.check in
     let e : refused c.refusal.result.0 ≡ listShortOf s.raw (length b) =
-    ap refused c.refusal.ensures ∙ sym (hit-cell s.raw (more s.raw (length b)) _ _ (of_refusal s.raw a.result c.before.before.match.keys2 a.ensures)) in
+    ap refused c.refusal.ensures ∙ sym (hit_cell s.raw (more s.raw (length b)) _ _ (of_refusal s.raw a.result c.before.before.match.keys2 a.ensures)) in
     (e, untouched _ _ s.raw (resOf s.raw + 1) b (sym e))
 
 returns-2 : tie.Need-returns-2
@@ -76,7 +76,7 @@ returns-2 c =
     let s = d.before.before.before.before.before.args in
     let b = s.buf.now in
     let e : refused c.refusal2.result.0 ≡ listShortOf s.raw (length b) =
-    ap refused c.refusal2.ensures ∙ sym (past-cell s.raw (more s.raw (length b)) _ (cell d).1 ∙ hit _ _ _ _ (lt-ltb _ _ (subst (λ (x : ℕ). 15 < x) (target r) c.before.if1.true))) in
+    ap refused c.refusal2.ensures ∙ sym (past_cell s.raw (more s.raw (length b)) _ (cell d).1 ∙ hit _ _ _ _ (lt-ltb _ _ (subst (λ (x : ℕ). 15 < x) (target r) c.before.if1.true))) in
     (e, untouched _ _ s.raw (resOf s.raw + 1) b (sym e))
 
 resolution-requires : tie.Need-resolution-requires
@@ -103,7 +103,7 @@ returns-3 c =
     let v = cell d in
     let h : resOf s.raw + 1 ≤ 15 = subst (λ (x : ℕ). x ≤ 15) (target r) q.before.if1.false in
     let e : listShortOf s.raw (length b) ≡ roomOf s.raw (resOf s.raw + 1) (length b) =
-    past-cell s.raw (more s.raw (length b)) _ v.1 ∙ past _ _ _ _ (le-ltb _ _ h) ∙ past _ _ _ _ (le-ltb (resOf s.raw + 1) (resOf s.raw) (omega arith)) in
+    past_cell s.raw (more s.raw (length b)) _ v.1 ∙ past _ _ _ _ (le-ltb _ _ h) ∙ past _ _ _ _ (le-ltb (resOf s.raw + 1) (resOf s.raw) (omega arith)) in
     passed _ _ s.raw _ (resOf s.raw + 1) b _ _ v.0 (q.resolution.ensures ∙ target r) e c.before.before.fill.ensures
 
 pub list_short_spec : {M : Type 1} → statement M

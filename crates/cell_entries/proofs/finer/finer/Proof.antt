@@ -7,8 +7,8 @@ use Prim.Native.Nat.{ℕ, ◌≤◌, ◌<◌}
 use lib.Dec.{ltb}
 use Rattle.index.specs.Layout.{Valid, resOf}
 use Rattle.index.specs.Refusals.{Rule, ◌when◌, answered, refused}
-use Rattle.index.proofs.Answers.{of_cell, of_refusal, past-cell, hit-cell}
-use Rattle.index.proofs.Rules.{past, hit, none-answered}
+use Rattle.index.proofs.Answers.{of_cell, of_refusal, past_cell, hit_cell}
+use Rattle.index.proofs.Rules.{past, hit, none_answered}
 use Rattle.entry.specs.Rules.{resolutionRule}
 use Rattle.cell_entries.proofs.finer.finer.Statement.{statement}
 use Rattle.cell_entries.proofs.finer.finer.Tie as tie
@@ -49,14 +49,14 @@ unfolding more
 returns c =
     let s = c.before.before.before.args in
     let a = c.before.before.before in
-    ap refused c.refusal.ensures ∙ sym (hit-cell s.raw (more s.raw s.target) _ _ (of_refusal s.raw a.args.a c.before.before.match.keys2 a.requires))
+    ap refused c.refusal.ensures ∙ sym (hit_cell s.raw (more s.raw s.target) _ _ (of_refusal s.raw a.args.a c.before.before.match.keys2 a.requires))
 
 returns-2 : tie.Need-returns-2
 unfolding more
 returns-2 c =
     let s = c.before.before.before.before.before.args in
     let v = cell c.before.before in
-    ap refused c.refusal2.ensures ∙ sym (past-cell s.raw (more s.raw s.target) _ v.1 ∙ hit _ _ _ _ (lt-ltb _ _ c.before.if1.true))
+    ap refused c.refusal2.ensures ∙ sym (past_cell s.raw (more s.raw s.target) _ v.1 ∙ hit _ _ _ _ (lt-ltb _ _ c.before.if1.true))
 
 -- the own resolution, as it was read
 own : (n r k : ℕ) (m : ℕ) → n ≡ m → r ≡ resOf n → k ≡ r → k ≡ resOf m
@@ -70,7 +70,7 @@ returns-3 c =
     let v = cell d in
     let k = own _ _ _ s.raw v.0 c.before.before.before.resolution-of.ensures c.before.before.resolution-number.ensures in
     ap refused c.refusal3.ensures
-    ∙ sym (past-cell s.raw (more s.raw s.target) _ v.1 ∙ past _ _ _ _ (le-ltb _ _ c.before.before.before.before.if1.false) ∙ hit _ _ _ _ (lt-ltb _ _ (subst (λ (x : ℕ). s.target < x) k c.before.if2.true)))
+    ∙ sym (past_cell s.raw (more s.raw s.target) _ v.1 ∙ past _ _ _ _ (le-ltb _ _ c.before.before.before.before.if1.false) ∙ hit _ _ _ _ (lt-ltb _ _ (subst (λ (x : ℕ). s.target < x) k c.before.if2.true)))
 
 returns-4 : tie.Need-returns-4
 unfolding more
@@ -80,7 +80,7 @@ returns-4 c =
     let v = cell d in
     let k = own _ _ _ s.raw v.0 c.before.before.before.resolution-of.ensures c.before.before.resolution-number.ensures in
     (λ i. answered (v.0 i, c.resolution.ensures i))
-    ∙ sym (past-cell s.raw (more s.raw s.target) _ v.1 ∙ past _ _ _ _ (le-ltb _ _ c.before.before.before.before.if1.false) ∙ past _ _ _ _ (le-ltb _ _ (subst (λ (x : ℕ). x ≤ s.target) k c.before.if2.false)) ∙ none-answered _)
+    ∙ sym (past_cell s.raw (more s.raw s.target) _ v.1 ∙ past _ _ _ _ (le-ltb _ _ c.before.before.before.before.if1.false) ∙ past _ _ _ _ (le-ltb _ _ (subst (λ (x : ℕ). x ≤ s.target) k c.before.if2.false)) ∙ none_answered _)
 
 pub finer_spec : {M : Type 1} → statement M
 finer_spec =

@@ -13,7 +13,7 @@ use Rattle.plane.specs.declared.ijk.IJK.{IJK}
 use Rattle.index.specs.Layout.{digit, resOf, Valid}
 use Rattle.index.specs.View.{used}
 use Rattle.centres.specs.Centres.{centreOf}
-use Rattle.centres.proofs.Centres.{point_within, down-within, next-centre}
+use Rattle.centres.proofs.Centres.{point_within, down_within, next_centre}
 use Rattle.centres.proofs.centre.centre.Statement.{statement}
 use Rattle.centres.proofs.centre.centre.Tie as tie
 
@@ -49,11 +49,11 @@ module _ (n k : ℕ) (p : IJK) (r at d : ℕ) (i : Inv n k p r) (h : r < k) (ea 
   within = point_within n k r p h top small i.is
 
   lower : (o : Bool) (q : IJK) → q ≡ normal (down7 o p) → Within 999999999 q
-  lower = down-within n k r p h top small i.is
+  lower = down_within n k r p h top small i.is
 
   next : (o : Bool) (x : ℕ) (q s : IJK) → o ≡ odd (r + 1) → q ≡ normal (down7 o p) → x ≡ d → s ≡ normal (plus q (unit x)) → Inv n k s (r + 1)
   next o x q s eo eq ex es =
-      record { cell = i.cell; res = i.res; place = omega arith; is = next-centre n k r p h top small i.is o x q s eo (ex ∙ ed ∙ ap (digit n) ea) eq es }
+      record { cell = i.cell; res = i.res; place = omega arith; is = next_centre n k r p h top small i.is o x q s eo (ex ∙ ed ∙ ap (digit n) ea) eq es }
 
 number-of-requires : tie.Need-number-of-requires invariant_loop decreases_loop
 number-of-requires c κs = search rules

@@ -10,7 +10,7 @@ use mir.Facts.{to_z-of_z}
 use Rattle.index.specs.Layout.{digit}
 use Rattle.children.proofs.Carry.{Advanced}
 use Rattle.children.specs.Skips.{Following}
-use Rattle.children.proofs.Moves.{inner-asked, follow}
+use Rattle.children.proofs.Moves.{inner_asked, follow}
 use Rattle.children.proofs.Rounds as rounds
 use Rattle.children.proofs.Rounds.{Kept}
 use Rattle.children.proofs.children.advance.Statement.{statement}
@@ -24,7 +24,7 @@ decreases_loop number skip own target bits₀ r₀ bits r = r
 
 loop-holds : tie.Need-loop-init invariant_loop decreases_loop
 loop-holds c =
-    let a = inner-asked c.args.number c.args.own c.args.skip (omega arith) c.requires.0 c.args.target c.requires.1 in
+    let a = inner_asked c.args.number c.args.own c.args.skip (omega arith) c.requires.0 c.args.target c.requires.1 in
     rounds.begin _ _ _ _ a.0 a.1 a.2 a.3
 
 resolution-requires : tie.Need-resolution-requires invariant_loop decreases_loop
@@ -38,7 +38,7 @@ unit : (c : tie.After-place invariant_loop decreases_loop) → c.place.result �
 unit c = c.place.ensures ∙ ap (λ (i : ℕ). 8 ^ (15 - i)) c.before.resolution.ensures
 
 fits : (c : tie.After-place invariant_loop decreases_loop) → c.place.result * 8 ≤ 2 ^ 45
-fits c = rounds.one-small _ _ _ _ _ _ c.before.before.before.loop.invariant c.before.before.loop-test.true _ (unit c)
+fits c = rounds.one_small _ _ _ _ _ _ c.before.before.before.loop.invariant c.before.before.loop-test.true _ (unit c)
 
 add-bits : tie.Need-overflow-add-bits invariant_loop decreases_loop
 add-bits c = let i = c.before.before.before.loop.invariant.fits in omega (arith, fits c)

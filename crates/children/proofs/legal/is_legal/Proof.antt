@@ -47,10 +47,10 @@ resolution-number-requires : tie.Need-resolution-number-requires
 resolution-number-requires c κs = search rules
 
 returns-2 : tie.Need-returns-2
-returns-2 c = judging.other-res c.before.before.before.before.before.before.before.before.before.args.cursor (told c.before.before.before.before.before.before).1 (λ e. c.if1.true (read c.before ∙ e))
+returns-2 c = judging.other_res c.before.before.before.before.before.before.before.before.before.args.cursor (told c.before.before.before.before.before.before).1 (λ e. c.if1.true (read c.before ∙ e))
 
 returns-3 : tie.Need-returns-3
-returns-3 c = judging.too-coarse c.before.before.before.before.before.before.before.before.before.before.args.cursor (told c.before.before.before.before.before.before.before).1 (sym (read c.before.before) ∙ c.before.if1.false) c.if2.true
+returns-3 c = judging.too_coarse c.before.before.before.before.before.before.before.before.before.before.args.cursor (told c.before.before.before.before.before.before.before).1 (sym (read c.before.before) ∙ c.before.if1.false) c.if2.true
 
 is-placed-requires : tie.Need-is-placed-requires
 is-placed-requires c κs =
@@ -62,7 +62,7 @@ returns-4 : tie.Need-returns-4
 returns-4 c =
     let w = told c.before.before.before.before.before.before.before.before.before in
     let s = c.before.before.before.before.before.before.before.before.before.before.before.before.args.cursor in
-    judging.well-placed s w.1 (sym (read c.before.before.before.before) ∙ c.before.before.before.if1.false) c.before.before.if2.false _
+    judging.well_placed s w.1 (sym (read c.before.before.before.before) ∙ c.before.before.before.if1.false) c.before.before.if2.false _
     (c.is-placed.ensures
     ∙ ap (λ (z : ℤ). placed (ancestorOf c.before.before.before.before.before.before.before.before.before.a.given.0.0.0 s.own) c.before.before.before.before.before.before.before.before.before.a.given.0.0.0 s.left z) (to_z-of_z {w = w32} {z = s.skip} (record { sfits = c.before.struct_told.given.1.1.1.0.1 }))
     ∙ ap (λ (y : ℕ). placed (ancestorOf y s.own) y s.left s.skip) w.0)

@@ -50,7 +50,7 @@ returns : tie.Need-returns
 returns c =
     let r = c.before.before.before.before.before in
     let s = r.before.before.before.before.before.before.before.before in
-    judging.all-counted _ _ (omega arith) s.requires.0 s.requires.1 _ _ _ _ _ _ _ _ r.before.before.before.before.before.before.before.number_of_lem.ensures r.before.before.before.before.before.resolution-number.ensures r.before.before.before.before.before.before.resolution-of.ensures r.before.before.before.before.resolution.ensures r.before.before.before.ancestor.ensures r.before.before.is-pentagon.ensures r.before.count_down.ensures r.rank-of.ensures s.args.left s.args.skip _ c.before.before.before.before.is-counted.ensures c.before.before.before.if1.true _ _ _ s.ranges.skip c.before.before.leading.ensures c.before.skip_count.ensures c.is_same.ensures
+    judging.all_counted _ _ (omega arith) s.requires.0 s.requires.1 _ _ _ _ _ _ _ _ r.before.before.before.before.before.before.before.number_of_lem.ensures r.before.before.before.before.before.resolution-number.ensures r.before.before.before.before.before.before.resolution-of.ensures r.before.before.before.before.resolution.ensures r.before.before.before.ancestor.ensures r.before.before.is-pentagon.ensures r.before.count_down.ensures r.rank-of.ensures s.args.left s.args.skip _ c.before.before.before.before.is-counted.ensures c.before.before.before.if1.true _ _ _ s.ranges.skip c.before.before.leading.ensures c.before.skip_count.ensures c.is_same.ensures
 
 leading-requires : tie.Need-leading-requires
 leading-requires c κs = search rules
@@ -67,7 +67,7 @@ returns-2 : tie.Need-returns-2
 returns-2 c =
     let r = c.before.before in
     let s = r.before.before.before.before.before.before.before.before in
-    judging.not-counted _ _ (omega arith) s.requires.0 s.requires.1 _ _ _ _ _ _ _ _ r.before.before.before.before.before.before.before.number_of_lem.ensures r.before.before.before.before.before.resolution-number.ensures r.before.before.before.before.before.before.resolution-of.ensures r.before.before.before.before.resolution.ensures r.before.before.before.ancestor.ensures r.before.before.is-pentagon.ensures r.before.count_down.ensures r.rank-of.ensures s.args.left s.args.skip _ c.before.is-counted.ensures c.if1.false
+    judging.not_counted _ _ (omega arith) s.requires.0 s.requires.1 _ _ _ _ _ _ _ _ r.before.before.before.before.before.before.before.number_of_lem.ensures r.before.before.before.before.before.resolution-number.ensures r.before.before.before.before.before.before.resolution-of.ensures r.before.before.before.before.resolution.ensures r.before.before.before.ancestor.ensures r.before.before.is-pentagon.ensures r.before.count_down.ensures r.rank-of.ensures s.args.left s.args.skip _ c.before.is-counted.ensures c.if1.false
 
 pub is_placed_spec : {M : Type 1} → statement M
 is_placed_spec =

@@ -12,10 +12,10 @@ use Rattle.index.specs.Layout.{resOf, base_of, digit, first_of, isPentagonal, Va
 use Rattle.index.specs.View.{used, pack, first}
 use Rattle.index.specs.Refusals.{answered, refused}
 use Rattle.index.specs.Written.{WithDigits}
-use Rattle.index.proofs.View.{first_used, pack-valid}
+use Rattle.index.proofs.View.{first_used, pack_valid}
 use Rattle.walks.specs.Walks.{walkedOf, carryOf}
 use Rattle.grid.specs.Steps.{inside, leaves, step_of}
-use Rattle.grid.proofs.Steps.{olds, news, leaving, staying, refusing, turning-ccw, turning-cw, fit-news, fit-turned, walked-rest, walked_first, walked-turned}
+use Rattle.grid.proofs.Steps.{olds, news, leaving, staying, refusing, turning_ccw, turning_cw, fit_news, fit_turned, walked_rest, walked_first, walked_turned}
 use Rattle.grid.proofs.algo.step.Statement.{statement}
 use Rattle.grid.proofs.algo.step.Tie as tie
 
@@ -40,7 +40,7 @@ module _ (n way y e : ℕ) (b : Base n way y e) where
 
   turnable : Turnable y
   turnable =
-      subst Turnable (sym b.number) (walked-rest n way b.cell b.small, omega arith)
+      subst Turnable (sym b.number) (walked_rest n way b.cell b.small, omega arith)
 
 -- where the answer is the walk's number
 record Plain (n way y : ℕ) : Type 0 where
@@ -51,7 +51,7 @@ plain : (n way y e : ℕ) → Base n way y e → e ≡ 0 → (isPentagonal (base
 unfolding walkedOf
 plain n way y e b z k =
     record {
-      cell = subst Valid (sym b.number) (pack-valid (base_of n) (news n way) (fit-news n way b.cell b.small k));
+      cell = subst Valid (sym b.number) (pack_valid (base_of n) (news n way) (fit_news n way b.cell b.small k));
       step = λ m em. ap (λ (x : ℕ). answered (inside x 0)) (em ∙ b.number) ∙ sym (staying n way (sym b.carry ∙ z) k);
     }
 
@@ -87,16 +87,16 @@ module _ (n way y f : ℕ) (d : Deleted n way y f) where
   refusal q = sym (refusing n way d.none d.pentagonal d.one (sym d.old ∙ q))
 
   turned : (o : Bool) (w : ℕ) → w < 2 ^ 64 → WithDigits y (map (turns o 1) (used y (resOf y))) w → w ≡ pack (base_of n) (map (turns o 1) (news n way))
-  turned o w h ew = walked-turned n way d.is d.small o w d.fits h (subst (λ (x : ℕ). WithDigits x (map (turns o 1) (used x (resOf x))) w) d.number ew)
+  turned o w h ew = walked_turned n way d.is d.small o w d.fits h (subst (λ (x : ℕ). WithDigits x (map (turns o 1) (used x (resOf x))) w) d.number ew)
 
   valid : (o : Bool) (w : ℕ) → w < 2 ^ 64 → WithDigits y (map (turns o 1) (used y (resOf y))) w → Valid w
-  valid o w h ew = subst Valid (sym (turned o w h ew)) (pack-valid (base_of n) (map (turns o 1) (news n way)) (fit-turned n way d.is d.small o d.one))
+  valid o w h ew = subst Valid (sym (turned o w h ew)) (pack_valid (base_of n) (map (turns o 1) (news n way)) (fit_turned n way d.is d.small o d.one))
 
   ccw : (w r : ℕ) → w < 2 ^ 64 → WithDigits y (map (turns true 1) (used y (resOf y))) w → r ≡ w → f ≡ 3 → answered (inside r 1) ≡ step_of n way
-  ccw w r h ew er s = ap (λ (x : ℕ). answered (inside x 1)) (er ∙ turned true w h ew) ∙ sym (turning-ccw n way d.none d.pentagonal d.one (sym d.old ∙ s))
+  ccw w r h ew er s = ap (λ (x : ℕ). answered (inside x 1)) (er ∙ turned true w h ew) ∙ sym (turning_ccw n way d.none d.pentagonal d.one (sym d.old ∙ s))
 
   cw : (w r : ℕ) → w < 2 ^ 64 → WithDigits y (map (turns false 1) (used y (resOf y))) w → r ≡ w → (f ≡ 0 → ⊥) → (f ≡ 3 → ⊥) → answered (inside r 5) ≡ step_of n way
-  cw w r h ew er q s = ap (λ (x : ℕ). answered (inside x 5)) (er ∙ turned false w h ew) ∙ sym (turning-cw n way d.none d.pentagonal d.one (λ z. q (d.old ∙ z)) (λ z. s (d.old ∙ z)))
+  cw w r h ew er q s = ap (λ (x : ℕ). answered (inside x 5)) (er ∙ turned false w h ew) ∙ sym (turning_cw n way d.none d.pentagonal d.one (λ z. q (d.old ∙ z)) (λ z. s (d.old ∙ z)))
 
 -- the same at the places of the code
 base : (c : tie.After-walk) → Base c.before.args.c.0 c.before.args.d.0 c.walk.result.number c.walk.result.carry.0

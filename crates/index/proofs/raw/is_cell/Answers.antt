@@ -6,7 +6,7 @@ use Rattle.index.specs.Layout.{top_bit, mode_of, reservedOf, base_of, resOf, isP
 use Rattle.index.specs.Refusals.{Clear}
 use Rattle.index.specs.Check.{cellRules}
 use Rattle.index.specs.Words.{Each, mark, ones, low}
-use Rattle.index.proofs.Rules.{clear-answered}
+use Rattle.index.proofs.Rules.{clear_answered}
 use Rattle.index.proofs.Leading.{highs, first_is_one}
 use Rattle.index.proofs.Flags.{over, under}
 use Rattle.index.proofs.raw.is_cell.Goals as goal
@@ -65,4 +65,4 @@ returns c t =
     let n : ℕ = c.args.n in
     let eu = c.unused-u.ensures ∙ ap (λ (r : ℕ). ones (15 - r)) c.get_resolution.ensures in
     clear_answered (cellRules n) n
-    (cleared n _ _ _ _ _ c.get_base_cell-base.ensures eu c.marks-s.ensures c.low_bits.ensures c.wrapping_sub_u64-deleted.type_inv c.wrapping_sub_u64-deleted.ensures (eqb-true _ _ t))
+    (cleared n _ _ _ _ _ c.get_base_cell-base.ensures eu c.marks-s.ensures c.low_bits.ensures c.wrapping_sub_u64-deleted.type_inv c.wrapping_sub_u64-deleted.ensures.value (eqb-true _ _ t))

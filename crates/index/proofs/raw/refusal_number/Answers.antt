@@ -4,7 +4,7 @@ use borrow.Author.Tests.{eqb-false}
 use native.Mathlib.Nat.{div-div-eq-div-mul}
 use Rattle.index.specs.Layout.{top_bit, mode_of}
 use Rattle.index.specs.Words.{ones}
-use Rattle.index.proofs.Rules.{numbered, none-answered}
+use Rattle.index.proofs.Rules.{numbered, none_answered}
 use Rattle.index.proofs.Leading.{highs, first_is_one}
 use Rattle.index.proofs.Flags.{over, under}
 use Rattle.index.proofs.raw.refusal_number.Goals as goal

@@ -37,7 +37,7 @@ returns-2 c =
     let t = c.before.before.before.before in
     let s = t.before.before.before in
     let e : 7 ≡ count false s.args.m = sym (ap (count false) t.if2.true) in
-    rw e at (filled.hexagon-7 s.args.base s.args.unit s.args.m s.args.buf.now _ (omega (arith, t.if2.true)) (seven t) c.before.before.run.ensures)
+    rw e at (filled.hexagon_7 s.args.base s.args.unit s.args.m s.args.buf.now _ (omega (arith, t.if2.true)) (seven t) c.before.before.run.ensures)
 
 -- two or more
 deep : (c : tie.Else2) → 2 ≤ c.before.before.before.args.m
@@ -57,7 +57,7 @@ grow-hexagon-requires c κs =
     let t = c.before.before.before.before.before in
     let s = t.before.before.before in
     let f = number_at s.args.base s.args.unit false s.args.m in
-    let e = filled.hexagon-49 s.args.base s.args.unit s.args.m s.args.buf.now _ (deep t) (room t) c.before.before.before.runs.ensures in
+    let e = filled.hexagon_49 s.args.base s.args.unit s.args.m s.args.buf.now _ (deep t) (room t) c.before.before.before.runs.ensures in
     (deep t, s.requires.0, s.requires.1, s.requires.2, rw (stairs_length _ _ _ _ _ _ c.before.before.before.runs.ensures) s.requires.3, again f s.args.buf.now _ 49 e)
 
 same-length-3 : tie.Need-same-length-3
@@ -68,7 +68,7 @@ returns-3 c =
     let t = c.before.before.before.before.before.before.before.before in
     let s = t.before.before.before in
     let f = number_at s.args.base s.args.unit false s.args.m in
-    let e = filled.hexagon-49 s.args.base s.args.unit s.args.m s.args.buf.now _ (deep t) (room t) c.before.before.before.before.before.before.runs.ensures in
+    let e = filled.hexagon_49 s.args.base s.args.unit s.args.m s.args.buf.now _ (deep t) (room t) c.before.before.before.before.before.before.runs.ensures in
     then f s.args.buf.now _ 49 e _ (count false s.args.m) (count_mono false 2 s.args.m (deep t)) c.before.before.grow-hexagon.ensures
 
 pub fill_hexagon_spec : {M : Type 1} → statement M

@@ -56,7 +56,7 @@ returns-2 c =
     let s = c.before.before.before.before.before.before.before in
     let o = one c.before.before.before.before.before in
     let e : 6 ≡ count true s.args.m = sym (ap (count true) c.if2.true) in
-    rw e at (filled.pentagon-6 s.args.base s.args.unit s.args.m s.args.buf.now _ o.0 o.1 c.before.before.before.run.ensures)
+    rw e at (filled.pentagon_6 s.args.base s.args.unit s.args.m s.args.buf.now _ o.0 o.1 c.before.before.before.run.ensures)
 
 mul-runs : tie.Need-overflow-mul-runs
 mul-runs c = omega (arith, (two c.before).2)
@@ -77,7 +77,7 @@ returns-3 c =
     let s = c.before.before.before.before.before.before.before.before.before.before.before.before in
     let w = two c.before.before.before.before.before in
     let e : 41 ≡ count true s.args.m = sym (ap (count true) c.if3.true) in
-    rw e at (filled.pentagon-41 s.args.base s.args.unit s.args.m s.args.buf.now _ _ w.0 w.1 c.before.before.before.before.before.before.before.before.run.ensures c.before.before.before.runs.ensures)
+    rw e at (filled.pentagon_41 s.args.base s.args.unit s.args.m s.args.buf.now _ _ w.0 w.1 c.before.before.before.before.before.before.before.before.run.ensures c.before.before.before.runs.ensures)
 
 mul-runs-2 : tie.Need-overflow-mul-runs-2
 mul-runs-2 c = omega (arith, (three c.before).2)
@@ -95,14 +95,14 @@ grow-pentagon-requires c κs =
     let s = c.before.before.before.before.before.before.before.before.before.before.before.before.before.before.before.before.before in
     let h = three c.before.before.before.before.before in
     let f = number_at s.args.base s.args.unit true s.args.m in
-    let e = filled.pentagon-90 s.args.base s.args.unit s.args.m s.args.buf.now _ _ _ h.0 h.1 c.before.before.before.before.before.before.before.before.before.before.before.before.before.run.ensures c.before.before.before.before.before.before.before.before.runs.ensures c.before.before.before.runs2.ensures in
+    let e = filled.pentagon_90 s.args.base s.args.unit s.args.m s.args.buf.now _ _ _ h.0 h.1 c.before.before.before.before.before.before.before.before.before.before.before.before.before.run.ensures c.before.before.before.before.before.before.before.before.runs.ensures c.before.before.before.runs2.ensures in
     (h.0, s.requires.0, s.requires.1, s.requires.2, rw (long_as f s.args.buf.now _ 90 e h.1) s.requires.3, again f s.args.buf.now _ 90 e)
 
 returns-4 : tie.Need-returns-4
 returns-4 c =
     let s = c.before.before.before.before.before.before.before.before.before.before.before.before.before.before.before.before.before.before.before.before in
     let h = three c.before.before.before.before.before.before.before.before in
-    let e = filled.pentagon-90 s.args.base s.args.unit s.args.m s.args.buf.now _ _ _ h.0 h.1 c.before.before.before.before.before.before.before.before.before.before.before.before.before.before.before.before.run.ensures c.before.before.before.before.before.before.before.before.before.before.before.runs.ensures c.before.before.before.before.before.before.runs2.ensures in
+    let e = filled.pentagon_90 s.args.base s.args.unit s.args.m s.args.buf.now _ _ _ h.0 h.1 c.before.before.before.before.before.before.before.before.before.before.before.before.before.before.before.before.run.ensures c.before.before.before.before.before.before.before.before.before.before.before.runs.ensures c.before.before.before.before.before.before.runs2.ensures in
     then (number_at s.args.base s.args.unit true s.args.m) s.args.buf.now _ 90 e _ (count true s.args.m) h.3 c.before.before.grow-pentagon.ensures
 
 same-length-4 : tie.Need-same-length-4

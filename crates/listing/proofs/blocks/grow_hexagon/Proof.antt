@@ -22,7 +22,7 @@ room : (c : tie.In-loop invariant_loop decreases_loop) → let l = c.before.loop
 room c =
     let l = c.before.loop in
     let a = c.before.before.before in
-    levels.hexagon-room a.args.base a.args.unit a.args.m _ l.buf a.requires.1 a.requires.2 a.requires.3 0 l.size l.step l.j a.requires.4 l.invariant.1 c.loop-test.true
+    levels.hexagon_room a.args.base a.args.unit a.args.m _ l.buf a.requires.1 a.requires.2 a.requires.3 0 l.size l.step l.j a.requires.4 l.invariant.1 c.loop-test.true
 
 mul-end : tie.Need-overflow-mul-end invariant_loop decreases_loop
 mul-end c = omega (arith, room c)
@@ -44,7 +44,7 @@ loop-again c =
     let t = c.before.before.before.before in
     let l = t.before.loop in
     let a = t.before.before.before in
-    (omega arith, levels.hexagon-turn a.args.base a.args.unit a.args.m _ l.buf a.requires.1 a.requires.2 a.requires.3 0 l.size l.step l.j a.requires.4 l.invariant.1 t.loop-test.true _ c.before.before.spread.ensures)
+    (omega arith, levels.hexagon_turn a.args.base a.args.unit a.args.m _ l.buf a.requires.1 a.requires.2 a.requires.3 0 l.size l.step l.j a.requires.4 l.invariant.1 t.loop-test.true _ c.before.before.spread.ensures)
 
 same_length : tie.Need-same-length invariant_loop decreases_loop
 same_length c = c.before.loop.invariant.1.long
@@ -53,7 +53,7 @@ returns : tie.Need-returns invariant_loop decreases_loop
 returns c =
     let l = c.before.loop in
     let a = c.before.before.before in
-    levels.hexagon-done a.args.base a.args.unit a.args.m _ l.buf a.requires.1 a.requires.2 a.requires.3 0 l.size l.step l.j a.requires.4 l.invariant.1 (omega arith)
+    levels.hexagon_done a.args.base a.args.unit a.args.m _ l.buf a.requires.1 a.requires.2 a.requires.3 0 l.size l.step l.j a.requires.4 l.invariant.1 (omega arith)
 
 pub grow_hexagon_spec : {M : Type 1} → statement M
 grow_hexagon_spec =

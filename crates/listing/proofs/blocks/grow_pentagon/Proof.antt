@@ -27,7 +27,7 @@ room : (c : tie.In-loop invariant_loop decreases_loop) → let l = c.before.loop
 room c =
     let l = c.before.loop in
     let a = c.before.before.before in
-    levels.pentagon-room a.args.base a.args.unit a.args.m _ l.buf a.requires.1 a.requires.2 a.requires.3 l.at l.size l.step l.j a.requires.4 l.invariant.1 c.loop-test.true
+    levels.pentagon_room a.args.base a.args.unit a.args.m _ l.buf a.requires.1 a.requires.2 a.requires.3 l.at l.size l.step l.j a.requires.4 l.invariant.1 c.loop-test.true
 
 -- past the last
 ends : (c : tie.After-loop invariant_loop decreases_loop) → c.before.loop.j + 1 ≡ c.before.before.before.args.m
@@ -37,7 +37,7 @@ done : (c : tie.After-loop invariant_loop decreases_loop) → let l = c.before.l
 done c =
     let l = c.before.loop in
     let a = c.before.before.before in
-    levels.pentagon-last a.args.base a.args.unit a.args.m _ l.buf a.requires.1 a.requires.2 a.requires.3 l.at l.size l.step l.j a.requires.4 l.invariant.1 (ends c)
+    levels.pentagon_last a.args.base a.args.unit a.args.m _ l.buf a.requires.1 a.requires.2 a.requires.3 l.at l.size l.step l.j a.requires.4 l.invariant.1 (ends c)
 
 mul-end : tie.Need-overflow-mul-end invariant_loop decreases_loop
 mul-end c = omega (arith, room c)
@@ -96,7 +96,7 @@ loop-again c =
     let t = c.before.before.before.before.before.before.before.before.before.before.before.before in
     let l = t.before.loop in
     let a = t.before.before.before in
-    (omega (arith, t.loop-test.true), levels.pentagon-turn a.args.base a.args.unit a.args.m _ l.buf a.requires.1 a.requires.2 a.requires.3 l.at l.size l.step l.j a.requires.4 l.invariant.1 t.loop-test.true _ _ _ c.before.before.before.before.before.before.before.before.before.before.spread.ensures c.before.before.before.before.before.before.spread2.ensures c.before.before.spread3.ensures)
+    (omega (arith, t.loop-test.true), levels.pentagon_turn a.args.base a.args.unit a.args.m _ l.buf a.requires.1 a.requires.2 a.requires.3 l.at l.size l.step l.j a.requires.4 l.invariant.1 t.loop-test.true _ _ _ c.before.before.before.before.before.before.before.before.before.before.spread.ensures c.before.before.before.before.before.before.spread2.ensures c.before.before.spread3.ensures)
 
 add-spread-5 : tie.Need-overflow-add-spread-5 invariant_loop decreases_loop
 add-spread-5 c = omega (arith, done c.before)
@@ -118,7 +118,7 @@ returns c =
     let t = c.before.before.before.before in
     let l = t.before.loop in
     let a = t.before.before.before in
-    let e = levels.pentagon-blocks a.args.base a.args.unit a.args.m _ l.buf a.requires.1 a.requires.2 a.requires.3 l.at l.size l.step l.j a.requires.4 l.invariant.1 (omega (arith, ends t)) _ c.before.before.spread4.ensures in
+    let e = levels.pentagon_blocks a.args.base a.args.unit a.args.m _ l.buf a.requires.1 a.requires.2 a.requires.3 l.at l.size l.step l.j a.requires.4 l.invariant.1 (omega (arith, ends t)) _ c.before.before.spread4.ensures in
     rw (done t).1 at e
 
 pub grow_pentagon_spec : {M : Type 1} → statement M

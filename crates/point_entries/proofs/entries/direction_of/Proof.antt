@@ -11,14 +11,14 @@ use types.Run
 use lib.IntN.{pos}
 use lib.Signed.{le_z}
 use Rattle.index.specs.Refusals.{answered, refused}
-use Rattle.index.proofs.Rules.{past, hit, none-answered}
+use Rattle.index.proofs.Rules.{past, hit, none_answered}
 use Rattle.plane.specs.Points.{normal, largest, value, direction_of}
 use Rattle.plane.specs.declared.ijk.IJK.{IJK}
 use Rattle.plane.specs.declared.direction.Direction.{Direction}
 use Rattle.plane.specs.declared.ijk.Way.{Way}
 use Rattle.plane.specs.contracts.ijk.Way as way-type
 use Rattle.point_entries.specs.Points.{unitRule}
-use Rattle.entry.proofs.Judges.{within, outside, refuse-point, wider}
+use Rattle.entry.proofs.Judges.{within, outside, refuse_point, wider}
 use Rattle.point_entries.proofs.entries.direction_of.Statement.{statement}
 use Rattle.point_entries.proofs.entries.direction_of.Tie as tie
 
@@ -56,7 +56,7 @@ returns : tie.Need-returns
 returns c =
     let p = c.before.before.before.before.args.p in
     let a = c.before.before.before.locate in
-    refuse-point p (unitRule p ∷ []) _ (value (normal p)) (outside p a.result c.before.before.match.keys2 a.ensures) c.refusal.ensures
+    refuse_point p (unitRule p ∷ []) _ (value (normal p)) (outside p a.result c.before.before.match.keys2 a.ensures) c.refusal.ensures
 
 direction-of-requires : tie.Need-direction-of-requires
 direction-of-requires c κs =
@@ -95,7 +95,7 @@ returns-3 c =
     let b = c.before.before.before.before.direction_of in
     let w = within p a.result _ c.before.before.before.before.before.before.a.given.1 a.ensures in
     let d = found p b.result _ c.before.before.b.given.1 (b.ensures ∙ ap direction_of w.0) in
-    ap answered (c.value.ensures ∙ d.0) ∙ sym (past 14 _ (unitRule p ∷ []) (value (normal p)) w.2 ∙ past _ _ [] _ d.1 ∙ none-answered _)
+    ap answered (c.value.ensures ∙ d.0) ∙ sym (past 14 _ (unitRule p ∷ []) (value (normal p)) w.2 ∙ past _ _ [] _ d.1 ∙ none_answered _)
 
 pub direction_of_spec : {M : Type 1} → statement M
 direction_of_spec =

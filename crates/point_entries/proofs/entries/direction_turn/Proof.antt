@@ -5,7 +5,7 @@ use mathlib.Core.Path.{sym, ap, ◌∙◌, subst}
 use mathlib.Core.List.{[], ◌∷◌}
 use Prim.Native.Nat.{ℕ, ◌<◌}
 use Rattle.index.specs.Refusals.{answered, refused}
-use Rattle.index.proofs.Rules.{past, hit, none-answered}
+use Rattle.index.proofs.Rules.{past, hit, none_answered}
 use Rattle.plane.specs.Directions.{turns}
 use Rattle.entry.specs.Rules.{countRule}
 use Rattle.entry.proofs.Judges.{to, nowhere, refuse_way}
@@ -61,7 +61,7 @@ returns-3 c =
     let a = c.before.before.before.before.before.before.head in
     let h = to s.direction a.result _ c.before.before.before.before.a.given.1 a.ensures in
     ap answered (c.value.ensures ∙ c.before.rotate60.ensures ∙ ap (turns s.ccw s.count) h.0)
-    ∙ sym (past 13 _ (countRule s.count ∷ []) (turns s.ccw s.count s.direction) h.2 ∙ past _ _ [] _ (le-ltb _ _ c.before.before.if1.false) ∙ none-answered _)
+    ∙ sym (past 13 _ (countRule s.count ∷ []) (turns s.ccw s.count s.direction) h.2 ∙ past _ _ [] _ (le-ltb _ _ c.before.before.if1.false) ∙ none_answered _)
 
 pub direction_turn_spec : {M : Type 1} → statement M
 direction_turn_spec =

@@ -5,7 +5,7 @@ use mathlib.Core.List.{[]}
 use native.Mathlib.Omega.{arith}
 use Rattle.plane.specs.Points as points
 use Rattle.plane.specs.declared.ijk.IJK.{IJK}
-use Rattle.entry.proofs.Judges.{within, outside, refuse-point, answer-point, wider}
+use Rattle.entry.proofs.Judges.{within, outside, refuse_point, answer_point, wider}
 use Rattle.point_entries.proofs.entries.down7.Statement.{statement}
 use Rattle.point_entries.proofs.entries.down7.Tie as tie
 
@@ -25,7 +25,7 @@ returns : tie.Need-returns
 returns c =
     let s = c.before.before.before.before in
     let a = c.before.before.before.locate in
-    refuse-point s.args.p [] _ (points.normal (points.down7 s.args.ccw s.args.p)) (outside s.args.p a.result c.before.before.match.keys2 a.ensures) c.refusal.ensures
+    refuse_point s.args.p [] _ (points.normal (points.down7 s.args.ccw s.args.p)) (outside s.args.p a.result c.before.before.match.keys2 a.ensures) c.refusal.ensures
 
 down-aperture7-requires : tie.Need-down-aperture7-requires
 down-aperture7-requires c κs =
@@ -39,7 +39,7 @@ returns-2 c =
     let s = c.before.before.before.before.before in
     let a = c.before.before.before.before.locate in
     let w = within s.args.p a.result _ c.before.before.a.given.1 a.ensures in
-    answer-point s.args.p _ _ w.2 (c.down-aperture7.ensures ∙ ap (λ (p : IJK). points.normal (points.down7 s.args.ccw p)) w.0)
+    answer_point s.args.p _ _ w.2 (c.down-aperture7.ensures ∙ ap (λ (p : IJK). points.normal (points.down7 s.args.ccw p)) w.0)
 
 pub down7_spec : {M : Type 1} → statement M
 down7_spec =

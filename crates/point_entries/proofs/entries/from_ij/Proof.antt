@@ -13,7 +13,7 @@ use Rattle.plane.specs.Points.{pair, of_ij}
 use Rattle.plane.specs.declared.ijk.IJ.{IJ}
 use Rattle.plane.specs.declared.ijk.IJK.{IJK}
 use Rattle.plane.proofs.Bounds.{rd}
-use Rattle.entry.proofs.Judges.{place_of, within, outside, refuse-point, answer-point}
+use Rattle.entry.proofs.Judges.{place_of, within, outside, refuse_point, answer_point}
 use Rattle.point_entries.proofs.entries.from_ij.Statement.{statement}
 use Rattle.point_entries.proofs.entries.from_ij.Tie as tie
 
@@ -52,7 +52,7 @@ returns c =
     let s = c.before.before.before.before in
     let p = s.before.before.args.p in
     let a = c.before.before.before.locate in
-    refuse-point (on p) [] _ (of_ij p) (outside (on p) a.result c.before.before.match.keys2 (a.ensures ∙ ap (λ (x : IJ). place_of (on x)) (known s))) c.refusal.ensures
+    refuse_point (on p) [] _ (of_ij p) (outside (on p) a.result c.before.before.match.keys2 (a.ensures ∙ ap (λ (x : IJ). place_of (on x)) (known s))) c.refusal.ensures
 
 of-ij-requires : tie.Need-of-ij-requires
 of-ij-requires c κs =
@@ -70,7 +70,7 @@ returns-2 c =
     let p = s.before.before.args.p in
     let a = c.before.before.before.before.locate in
     let w = within (on p) a.result _ c.before.before.a.given.1 (a.ensures ∙ ap (λ (x : IJ). place_of (on x)) (known s)) in
-    answer-point (on p) _ _ w.2 (c.of_ij.ensures ∙ ap of_ij (known s))
+    answer_point (on p) _ _ w.2 (c.of_ij.ensures ∙ ap of_ij (known s))
 
 pub from_ij_spec : {M : Type 1} → statement M
 from_ij_spec =

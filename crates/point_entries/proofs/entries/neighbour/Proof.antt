@@ -11,7 +11,7 @@ use Rattle.plane.specs.Directions.{unit}
 use Rattle.plane.specs.Points.{normal, plus}
 use Rattle.plane.specs.declared.ijk.IJK.{IJK}
 use Rattle.entry.specs.Rules.{rangeRule}
-use Rattle.entry.proofs.Judges.{to, nowhere, within, outside, refuse_way, refuse-point, answer-point, wider}
+use Rattle.entry.proofs.Judges.{to, nowhere, within, outside, refuse_way, refuse_point, answer_point, wider}
 use Rattle.point_entries.proofs.entries.neighbour.Statement.{statement}
 use Rattle.point_entries.proofs.entries.neighbour.Tie as tie
 
@@ -38,7 +38,7 @@ returns-2 c =
     let f = k.before.before.before in
     let b = f.before.before in
     let s = b.before.before.args in
-    refuse-point s.p [] _ (moved s.p s.direction) (outside s.p b.locate.result c.before.match2.keys2 b.locate.ensures) f.refusal2.ensures
+    refuse_point s.p [] _ (moved s.p s.direction) (outside s.p b.locate.result c.before.match2.keys2 b.locate.ensures) f.refusal2.ensures
     ∙ sym (past 13 _ (rangeRule s.p ∷ []) _ (way k).2)
 
 head-requires : tie.Need-head-requires
@@ -82,7 +82,7 @@ returns-3 c =
     let s = b.before.before.args in
     let h = way k in
     let w = within s.p b.locate.result _ e.before.place.given.1 b.locate.ensures in
-    answer-point s.p _ _ w.2 (c.neighbor.ensures ∙ ap₂ moved w.0 h.0) ∙ sym (past 13 _ (rangeRule s.p ∷ []) _ h.2)
+    answer_point s.p _ _ w.2 (c.neighbor.ensures ∙ ap₂ moved w.0 h.0) ∙ sym (past 13 _ (rangeRule s.p ∷ []) _ h.2)
 
 pub neighbour_spec : {M : Type 1} → statement M
 neighbour_spec =

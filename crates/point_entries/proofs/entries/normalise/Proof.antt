@@ -4,7 +4,7 @@ use mathlib.Core.Path.{ap, ◌∙◌}
 use mathlib.Core.List.{[]}
 use native.Mathlib.Omega.{arith}
 use Rattle.plane.specs.Points as points
-use Rattle.entry.proofs.Judges.{within, outside, refuse-point, answer-point, wider}
+use Rattle.entry.proofs.Judges.{within, outside, refuse_point, answer_point, wider}
 use Rattle.point_entries.proofs.entries.normalise.Statement.{statement}
 use Rattle.point_entries.proofs.entries.normalise.Tie as tie
 
@@ -24,7 +24,7 @@ returns : tie.Need-returns
 returns c =
     let s = c.before.before.before.before in
     let a = c.before.before.before.locate in
-    refuse-point s.args.p [] _ (points.normal s.args.p) (outside s.args.p a.result c.before.before.match.keys2 a.ensures) c.refusal.ensures
+    refuse_point s.args.p [] _ (points.normal s.args.p) (outside s.args.p a.result c.before.before.match.keys2 a.ensures) c.refusal.ensures
 
 normalize-requires : tie.Need-normalize-requires
 normalize-requires c κs =
@@ -38,7 +38,7 @@ returns-2 c =
     let s = c.before.before.before.before.before in
     let a = c.before.before.before.before.locate in
     let w = within s.args.p a.result _ c.before.before.a.given.1 a.ensures in
-    answer-point s.args.p _ _ w.2 (c.normalize.ensures ∙ ap (points.normal) w.0)
+    answer_point s.args.p _ _ w.2 (c.normalize.ensures ∙ ap (points.normal) w.0)
 
 pub normalise_spec : {M : Type 1} → statement M
 normalise_spec =

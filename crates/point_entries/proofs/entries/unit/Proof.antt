@@ -4,7 +4,7 @@ use mathlib.Core.Path.{sym, ap, ◌∙◌, subst}
 use mathlib.Core.List.{[]}
 use Prim.Native.Nat.{ℕ, ◌<◌}
 use Rattle.index.specs.Refusals.{answered}
-use Rattle.index.proofs.Rules.{past, none-answered}
+use Rattle.index.proofs.Rules.{past, none_answered}
 use Rattle.plane.specs.Directions.{unit}
 use Rattle.entry.proofs.Judges.{to, nowhere, refuse_way}
 use Rattle.point_entries.proofs.entries.unit.Statement.{statement}
@@ -39,7 +39,7 @@ returns-2 c =
     let d : ℕ = c.before.before.before.before.before.args.direction in
     let a = c.before.before.before.before.head in
     let w = to d a.result _ c.before.before.a.given.1 a.ensures in
-    ap answered (c.coordinate.ensures ∙ ap unit w.0) ∙ sym (past 13 _ [] (unit d) w.2 ∙ none-answered _)
+    ap answered (c.coordinate.ensures ∙ ap unit w.0) ∙ sym (past 13 _ [] (unit d) w.2 ∙ none_answered _)
 
 pub unit_spec : {M : Type 1} → statement M
 unit_spec =

@@ -8,7 +8,7 @@ use Rattle.index.specs.Layout.{resOf, Valid}
 use Rattle.index.specs.View.{octal}
 use Rattle.descent.specs.Descendants.{pentagon, count, count_of}
 use Rattle.descent.specs.Positions.{below, childAt}
-use Rattle.descent.proofs.Start.{child-sum, child_fits, child_valid}
+use Rattle.descent.proofs.Start.{child_sum, child_fits, child_valid}
 use Rattle.ranks.proofs.rank.child_at.Statement.{statement}
 use Rattle.ranks.proofs.rank.child_at.Tie as tie
 
@@ -35,7 +35,7 @@ module _ (n t p own own' target : ℕ) (f : Bool) (h64 : n < 2 ^ 64) (v : Valid 
 
   module _ (q digits start unit : ℕ) (eq : octal (below f (target - own) p) ≡ octal (below false 16 q)) (ed : digits ≡ octal (below false 16 q)) (es : start ≡ childAt n t 0) (eu : unit ≡ 8 ^ (15 - t)) where
     sum : start + unit * digits ≡ childAt n t p
-    sum = rw (ed, ← eq, eo, eo', et, ef, es, eu) (child-sum n t h64 v lo hi p hp)
+    sum = rw (ed, ← eq, eo, eo', et, ef, es, eu) (child_sum n t h64 v lo hi p hp)
 
     given : (start + unit * digits < 2 ^ 60) × (start + unit * digits ≡ childAt n t p) × Valid (start + unit * digits)
     given = (rw sum (child_fits n t h64 v lo hi p hp), sum, subst Valid (sym sum) (child_valid n t h64 v lo hi p hp))

@@ -77,7 +77,7 @@ less c'' =
     let c' = c''.before in
     let c = c'.before.before in
     let s = c.before.before in
-    ranking.below-pentagon _ _ _ _ _ _ _ (omega arith) s.pre.0 s.pre.1 s.pre.2 c.before.resolution.ensures c.place.ensures refl _ c'.before.in-sevens.ensures c'.if1.taken _ c''.sevens.ensures
+    ranking.below_pentagon _ _ _ _ _ _ _ (omega arith) s.pre.0 s.pre.1 s.pre.2 c.before.resolution.ensures c.place.ensures refl _ c'.before.in-sevens.ensures c'.if1.taken _ c''.sevens.ensures
 
 sub-result : tie.Need-overflow-sub-result
 sub-result c = omega (arith, less c)
@@ -89,7 +89,7 @@ returns-2 : tie.Need-returns-2
 returns-2 c' =
     let c = c'.before.before in
     let s = c.before.before in
-    ranking.below-hexagon _ _ _ _ _ _ _ (omega arith) s.requires.0 s.requires.1 s.requires.2 c.before.resolution.ensures c.place.ensures refl _ c'.before.in-sevens.ensures c'.if1.false
+    ranking.below_hexagon _ _ _ _ _ _ _ (omega arith) s.requires.0 s.requires.1 s.requires.2 c.before.resolution.ensures c.place.ensures refl _ c'.before.in-sevens.ensures c'.if1.false
 
 pub rank_of_spec : {M : Type 1} → statement M
 rank_of_spec =

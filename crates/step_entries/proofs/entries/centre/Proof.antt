@@ -4,8 +4,8 @@ use mathlib.Core.Path.{◌≡◌, sym, ap, ◌∙◌, subst}
 use mathlib.Core.List.{[]}
 use Rattle.index.specs.Layout.{Valid}
 use Rattle.index.specs.Refusals.{answered, refused}
-use Rattle.index.proofs.Answers.{of_cell, of_refusal, past-cell, hit-cell}
-use Rattle.index.proofs.Rules.{none-answered}
+use Rattle.index.proofs.Answers.{of_cell, of_refusal, past_cell, hit_cell}
+use Rattle.index.proofs.Rules.{none_answered}
 use Rattle.centres.specs.Centres.{centreOf}
 use Rattle.step_entries.proofs.entries.centre.Statement.{statement}
 use Rattle.step_entries.proofs.entries.centre.Tie as tie
@@ -30,7 +30,7 @@ returns : tie.Need-returns
 returns c =
     let s = c.before.before.before.before.args in
     let a = c.before.before.before.check in
-    ap refused c.refusal.ensures ∙ sym (hit-cell s.raw [] _ _ (of_refusal s.raw a.result c.before.before.match.keys2 a.ensures))
+    ap refused c.refusal.ensures ∙ sym (hit_cell s.raw [] _ _ (of_refusal s.raw a.result c.before.before.match.keys2 a.ensures))
 
 centre-requires : tie.Need-centre-requires
 centre-requires c κs = let v = cell c in subst Valid (sym v.0) v.1
@@ -40,7 +40,7 @@ returns-2 c =
     let d = c.before in
     let s = d.before.before.before.before.args in
     let v = cell d in
-    ap answered (c.centre.ensures ∙ ap centreOf v.0) ∙ sym (past-cell s.raw [] _ v.1 ∙ none-answered _)
+    ap answered (c.centre.ensures ∙ ap centreOf v.0) ∙ sym (past_cell s.raw [] _ v.1 ∙ none_answered _)
 
 pub centre_spec : {M : Type 1} → statement M
 centre_spec =

@@ -4,8 +4,8 @@ use mathlib.Core.Path.{◌≡◌, sym, ap, ◌∙◌, subst}
 use mathlib.Core.List.{[]}
 use Rattle.index.specs.Layout.{Valid}
 use Rattle.index.specs.Refusals.{answered, refused}
-use Rattle.index.proofs.Answers.{of_cell, of_refusal, past-cell, hit-cell}
-use Rattle.index.proofs.Rules.{none-answered}
+use Rattle.index.proofs.Answers.{of_cell, of_refusal, past_cell, hit_cell}
+use Rattle.index.proofs.Rules.{none_answered}
 use Rattle.turns.specs.Turns.{pentagonTurned}
 use Rattle.step_entries.proofs.entries.pentagon_turn.Statement.{statement}
 use Rattle.step_entries.proofs.entries.pentagon_turn.Tie as tie
@@ -27,7 +27,7 @@ returns : tie.Need-returns
 returns c =
     let s = c.before.before.before.args in
     let a = c.before.before.before in
-    ap refused c.refusal.ensures ∙ sym (hit-cell s.raw [] _ _ (of_refusal s.raw a.args.a c.before.before.match.keys2 a.requires))
+    ap refused c.refusal.ensures ∙ sym (hit_cell s.raw [] _ _ (of_refusal s.raw a.args.a c.before.before.match.keys2 a.requires))
 
 pentagon-rotate60-requires : tie.Need-pentagon-rotate60-requires
 pentagon-rotate60-requires c κs = let v = cell c in subst Valid (sym v.0) v.1
@@ -37,7 +37,7 @@ returns-2 c =
     let d = c.before in
     let s = d.before.before.before.args in
     let v = cell d in
-    ap answered (c.pentagon-rotate60.ensures ∙ ap (pentagonTurned s.ccw) v.0) ∙ sym (past-cell s.raw [] _ v.1 ∙ none-answered _)
+    ap answered (c.pentagon-rotate60.ensures ∙ ap (pentagonTurned s.ccw) v.0) ∙ sym (past_cell s.raw [] _ v.1 ∙ none_answered _)
 
 pub pentagon_turn_spec : {M : Type 1} → statement M
 pentagon_turn_spec =

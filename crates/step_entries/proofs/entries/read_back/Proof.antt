@@ -10,7 +10,7 @@ use native.Mathlib.Omega.{arith}
 use denote.Enum.Declared
 use types.Run
 use Rattle.index.specs.Refusals.{Outcome, answered, refused}
-use Rattle.index.proofs.Rules.{past, hit, none-answered}
+use Rattle.index.proofs.Rules.{past, hit, none_answered}
 use Rattle.plane.specs.Ranges.{point_in_range, Within}
 use Rattle.plane.specs.declared.ijk.IJK.{IJK}
 use Rattle.centres.specs.Centres.{Reads, toldRead}
@@ -63,7 +63,7 @@ module _ (r : ℕ) (p : IJK) where
 
   reads : (o x : Outcome ℕ) (n : ℕ) (q : IJK) → r ≤ 15 → not (point_in_range p) ≡ false → n ≡ r → q ≡ p → Reads n q o → o ≡ x → ReadsBack r p x
   reads o x n q h f en eq w e =
-      subst (λ (u : Outcome (Unit {0})). Under u (Reads r p) x) (sym (past 8 _ (rangeRule p ∷ []) tt (le-ltb _ _ h) ∙ past _ _ [] tt f ∙ none-answered tt))
+      subst (λ (u : Outcome (Unit {0})). Under u (Reads r p) x) (sym (past 8 _ (rangeRule p ∷ []) tt (le-ltb _ _ h) ∙ past _ _ [] tt f ∙ none_answered tt))
       (subst (λ (m : ℕ). Reads m p x) en (subst (λ (t : IJK). Reads n t x) eq (subst (Reads n q) e w)))
 
 -- no string was found

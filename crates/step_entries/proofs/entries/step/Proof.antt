@@ -5,13 +5,13 @@ use mathlib.Core.List.{[], ◌∷◌}
 use Prim.Native.Nat.{ℕ, ◌≤◌, ◌<◌}
 use Rattle.index.specs.Layout.{Valid}
 use Rattle.index.specs.Refusals.{Outcome, refused}
-use Rattle.index.proofs.Answers.{of_cell, of_refusal, past-cell, hit-cell}
-use Rattle.index.proofs.Rules.{past, hit, none-answered}
+use Rattle.index.proofs.Answers.{of_cell, of_refusal, past_cell, hit_cell}
+use Rattle.index.proofs.Rules.{past, hit, none_answered}
 use mathlib.Core.Bool.{◌||◌, false}
 use lib.Dec.{eqb, ltb}
 use Rattle.entry.specs.Rules.{onwardRule}
 use Rattle.step_entries.specs.Steps.{after}
-use Rattle.entry.proofs.Judges.{to-onward, nowhere}
+use Rattle.entry.proofs.Judges.{to_onward, nowhere}
 use Rattle.grid.specs.Steps as steps
 use Rattle.step_entries.proofs.entries.step.Statement.{statement}
 use Rattle.step_entries.proofs.entries.step.Tie as tie
@@ -50,14 +50,14 @@ cell c = let a = c.before.before.before.check in of_cell _ a.result _ c.before.a
 -- the arm of a direction
 way : (c : tie.After-known-told2) → let d = c.before.before.before.before.before.before.before.before.args.direction in
     (c.before.b.given.0.0.0 ≡ d) × (1 ≤ d) × (d < 7) × (eqb d 0 || ltb 6 d ≡ false)
-way c = let b = c.before.before.before.onward in to-onward _ b.result _ c.before.b.given.1 b.ensures
+way c = let b = c.before.before.before.onward in to_onward _ b.result _ c.before.b.given.1 b.ensures
 
 returns : tie.Need-returns
 returns c =
     let s = c.before.before.before.before.args in
     let a = c.before.before.before.check in
     ap refused c.refusal.ensures
-    ∙ sym (ap (λ (o : Outcome (Unit {0})). after o (steps.step_of s.raw s.direction)) (hit-cell s.raw (onwardRule s.direction ∷ []) tt _ (of_refusal s.raw a.result c.before.before.match.keys2 a.ensures)))
+    ∙ sym (ap (λ (o : Outcome (Unit {0})). after o (steps.step_of s.raw s.direction)) (hit_cell s.raw (onwardRule s.direction ∷ []) tt _ (of_refusal s.raw a.result c.before.before.match.keys2 a.ensures)))
 
 returns-2 : tie.Need-returns-2
 returns-2 c =
@@ -66,7 +66,7 @@ returns-2 c =
     let b = c.before.before.before.onward in
     ap refused c.refusal2.ensures
     ∙ sym (ap (λ (o : Outcome (Unit {0})). after o (steps.step_of s.raw s.direction))
-    (past-cell s.raw (onwardRule s.direction ∷ []) tt (cell d).1 ∙ hit _ _ _ _ (nowhere s.direction _ b.result c.before.before.match2.keys2 b.ensures)))
+    (past_cell s.raw (onwardRule s.direction ∷ []) tt (cell d).1 ∙ hit _ _ _ _ (nowhere s.direction _ b.result c.before.before.match2.keys2 b.ensures)))
 
 step-requires : tie.Need-step-requires
 step-requires c κs =
@@ -82,7 +82,7 @@ returns-3 c =
     let v = cell d in
     let w = way e in
     c.stepped.ensures ∙ c.before.step.ensures ∙ ap₂ steps.step_of v.0 w.0
-    ∙ sym (ap (λ (o : Outcome (Unit {0})). after o (steps.step_of s.raw s.direction)) (past-cell s.raw (onwardRule s.direction ∷ []) tt v.1 ∙ past _ _ _ _ w.3 ∙ none-answered _))
+    ∙ sym (ap (λ (o : Outcome (Unit {0})). after o (steps.step_of s.raw s.direction)) (past_cell s.raw (onwardRule s.direction ∷ []) tt v.1 ∙ past _ _ _ _ w.3 ∙ none_answered _))
 
 pub step_spec : {M : Type 1} → statement M
 step_spec =

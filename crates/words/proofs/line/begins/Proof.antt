@@ -5,7 +5,7 @@ use mathlib.Core.Path.{◌≡◌, refl, sym, ◌∙◌}
 use native.Mathlib.Omega.{arith}
 use lib.ListN.{length, drop}
 use Rattle.words.specs.Lines.{starts_with}
-use Rattle.words.proofs.Scanning.{starts-same, starts_other, starts_all}
+use Rattle.words.proofs.Scanning.{starts_same, starts_other, starts_all}
 use Rattle.words.proofs.line.begins.Statement.{statement}
 use Rattle.words.proofs.line.begins.Tie as tie
 
@@ -42,7 +42,7 @@ loop-again c =
     let l = c.before.before.before.before in
     let a = l.before.args in
     let t = c.before.before.before.loop-test.true in
-    (omega (arith, t), λ h. sym (starts-same a.start.now a.head.now l.loop.i t (omega (arith, h, t)) c.if1.false) ∙ l.loop.invariant.1 h)
+    (omega (arith, t), λ h. sym (starts_same a.start.now a.head.now l.loop.i t (omega (arith, h, t)) c.if1.false) ∙ l.loop.invariant.1 h)
 
 returns-2 : tie.Need-returns-2 invariant_loop decreases_loop
 returns-2 c =

@@ -25,7 +25,7 @@ returns c =
     let w = c.before.before.before in
     let s = w.before.before.args.self in
     let z : s.left ≡ 0 = c.if3.true in
-    ap Done (calls.done-cursor s _ _ (spot w) z _ refl) ∙ calls.done_call s (is_legal w) z
+    ap Done (calls.done_cursor s _ _ (spot w) z _ refl) ∙ calls.done_call s (is_legal w) z
 
 returns-2 : tie.Need-returns-2
 returns-2 c =
@@ -33,7 +33,7 @@ returns-2 c =
     let s = w.before.before.args.self in
     let z : s.left ≡ 0 → ⊥ = c.if3.false in
     let h = c.before.before.if2.true in
-    calls.child_given s _ (is_legal w) z (calls.last-cursor s _ _ (spot w) (omega (arith, z, h)) _ refl)
+    calls.child_given s _ (is_legal w) z (calls.last_cursor s _ _ (spot w) (omega (arith, z, h)) _ refl)
 
 cast-advance : tie.Need-overflow-cast-advance
 cast-advance c = search rules
@@ -52,7 +52,7 @@ returns-3 c =
     let e = c.before.before.before.before.before in
     let w = e.before in
     let s = w.before.before.args.self in
-    calls.child_given s _ (is_legal w) (λ z. omega (arith, z, e.if2.false)) (calls.more-cursor s _ _ (spot w) e.if2.false _ _ c.before.advance.ensures _ refl)
+    calls.child_given s _ (is_legal w) (λ z. omega (arith, z, e.if2.false)) (calls.more_cursor s _ _ (spot w) e.if2.false _ _ c.before.advance.ensures _ refl)
 
 returns-4 : tie.Need-returns-4
 returns-4 c = calls.refused_call c.before.before.args.self (sym c.before.is_legal.ensures ∙ c.if1.false)

@@ -4,7 +4,7 @@ use Prim.Native.Nat.{◌+◌}
 use mathlib.Core.Path.{refl}
 use lib.ListN.{set}
 use Rattle.words.specs.Reading.{Closes}
-use Rattle.words.proofs.Scanning.{holds-full, holds_more, whole}
+use Rattle.words.proofs.Scanning.{holds_full, holds_more, whole}
 use Rattle.words.proofs.line.Line.closed.Statement.{statement}
 use Rattle.words.proofs.line.Line.closed.Tie as tie
 
@@ -18,7 +18,7 @@ returns c =
     let k : Closes l (record { head = l.head; length = l.length; words = l.words; count = 9; word = v }) = record {
       head = refl;
       long = refl;
-      more = λ ws w s r. holds-full l v ws w s c.if1.true;
+      more = λ ws w s r. holds_full l v ws w s c.if1.true;
       fresh = c.before.new.ensures;
     } in
     (k, whole l _ k)

@@ -1,6 +1,6 @@
 -- `words::line::Line::fed` meets its contract: a blank ends the word, any other byte is one more of it.
 use borrow.Author.Rules.{rules}
-use Rattle.words.proofs.Scanning.{scans-blank, scans-more}
+use Rattle.words.proofs.Scanning.{scans_blank, scans_more}
 use Rattle.words.proofs.line.Line.fed.Statement.{statement}
 use Rattle.words.proofs.line.Line.fed.Tie as tie
 
@@ -14,7 +14,7 @@ returns : tie.Need-returns
 returns c =
     let a = c.before.before.before.args in
     let n = c.before.before.noted in
-    λ bs s. scans-blank a.self n.result a.b n.ensures bs s c.closed.result c.closed.ensures.0 c.before.if1.true
+    λ bs s. scans_blank a.self n.result a.b n.ensures bs s c.closed.result c.closed.ensures.0 c.before.if1.true
 
 fed-requires : tie.Need-fed-requires
 fed-requires c κs = search rules
@@ -23,7 +23,7 @@ returns-2 : tie.Need-returns-2
 returns-2 c =
     let a = c.before.before.before.before.args in
     let n = c.before.before.before.noted in
-    λ bs s. scans-more a.self n.result a.b n.ensures bs s c.fed.result c.fed.ensures c.before.before.if1.false
+    λ bs s. scans_more a.self n.result a.b n.ensures bs s c.fed.result c.fed.ensures c.before.before.if1.false
 
 pub fed_spec : {M : Type 1} → statement M
 fed_spec = tie.close (tie.spec noted-requires closed-requires returns fed-requires returns-2)

@@ -2,8 +2,8 @@
 use borrow.Author.Rules.{rules}
 use Prim.Native.Nat.{◌+◌, ◌*◌, ◌^◌, ◌<◌}
 use native.Mathlib.Omega.{arith}
-use Rattle.words.proofs.Numerals.{beyond-stays, beyond-digit, beyond-large, within_more, room, no_room}
-use Rattle.words.proofs.Readings.{was-lost, was-kept, now-lost, counts}
+use Rattle.words.proofs.Numerals.{beyond_stays, beyond_digit, beyond_large, within_more, room, no_room}
+use Rattle.words.proofs.Readings.{was_lost, was_kept, now_lost, counts}
 use Rattle.words.proofs.word.Digits.fed.Statement.{statement}
 use Rattle.words.proofs.word.Digits.fed.Tie as tie
 
@@ -20,8 +20,8 @@ returns : tie.Need-returns
 returns c =
     let a = c.before.before.before.before.args in
     λ bs s.
-    now-lost a.base _ _ _ c.lost.ensures (counts a.base a.self bs _ a.b c.before.before.before.more.ensures s)
-    (beyond-stays a.base bs a.b c.before.before.before.before.requires.0 (was-lost a.base a.self bs s c.before.if1.true))
+    now_lost a.base _ _ _ c.lost.ensures (counts a.base a.self bs _ a.b c.before.before.before.more.ensures s)
+    (beyond_stays a.base bs a.b c.before.before.before.before.requires.0 (was_lost a.base a.self bs s c.before.if1.true))
 
 lost-requires-2 : tie.Need-lost-requires-2
 lost-requires-2 c κs = search rules
@@ -30,8 +30,8 @@ returns-2 : tie.Need-returns-2
 returns-2 c =
     let a = c.before.before.before.before.before.args in
     λ bs s.
-    now-lost a.base _ _ _ c.lost2.ensures (counts a.base a.self bs _ a.b c.before.before.before.before.more.ensures s)
-    (beyond-digit a.base bs a.b (omega (arith, c.before.before.before.digit.ensures, c.before.if2.true)))
+    now_lost a.base _ _ _ c.lost2.ensures (counts a.base a.self bs _ a.b c.before.before.before.before.more.ensures s)
+    (beyond_digit a.base bs a.b (omega (arith, c.before.before.before.digit.ensures, c.before.if2.true)))
 
 sub-if3 : tie.Need-overflow-sub-if3
 sub-if3 c = search rules
@@ -48,8 +48,8 @@ returns-3 c =
     let p = c.before.before.before.before.before.before.requires in
     let e = c.before.before.before.before.digit.ensures in
     λ bs s.
-    now-lost a.base _ _ _ c.lost3.ensures (counts a.base a.self bs _ a.b c.before.before.before.before.before.more.ensures s)
-    (beyond-large a.base bs a.b a.self.value (was-kept a.base a.self bs s c.before.before.before.if1.false)
+    now_lost a.base _ _ _ c.lost3.ensures (counts a.base a.self bs _ a.b c.before.before.before.before.before.more.ensures s)
+    (beyond_large a.base bs a.b a.self.value (was_kept a.base a.self bs s c.before.before.before.if1.false)
     (rw (← e) (no_room a.base p.0 a.self.value _ c.before.if3.true)))
 
 -- the new value fits 64 bits
@@ -73,7 +73,7 @@ returns-4 c =
     λ bs s.
     record {
       long = counts a.base a.self bs _ a.b c.before.before.before.before.more.ensures s;
-      holds = rw e (within_more a.base bs a.b a.self.value (was-kept a.base a.self bs s c.before.before.if1.false) (rw (← e) c.before.if2.false));
+      holds = rw e (within_more a.base bs a.b a.self.value (was_kept a.base a.self bs s c.before.before.if1.false) (rw (← e) c.before.if2.false));
     }
 
 pub fed_spec : {M : Type 1} → statement M

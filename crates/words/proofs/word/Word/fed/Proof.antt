@@ -4,7 +4,7 @@ use Prim.Native.Nat.{ℕ, min}
 use mathlib.Core.Path.{sym, ap, ◌∙◌}
 use mathlib.Core.Logic.{⊎_elim}
 use lib.ListN.{length}
-use Rattle.words.proofs.Readings.{counted_zero, reads-minus, reads_more}
+use Rattle.words.proofs.Readings.{counted_zero, reads_minus, reads_more}
 use Rattle.words.proofs.word.Word.fed.Statement.{statement}
 use Rattle.words.proofs.word.Word.fed.Tie as tie
 
@@ -15,7 +15,7 @@ returns : tie.Need-returns
 returns c =
     let a = c.before.before.before.before.before.args in
     λ bs s.
-    reads-minus a.self _ a.b bs (counted_zero (length bs) (sym s.hex.long ∙ c.before.if1.true)) c.if2.true
+    reads_minus a.self _ a.b bs (counted_zero (length bs) (sym s.hex.long ∙ c.before.if1.true)) c.if2.true
     (c.before.before.fed.ensures bs s.hex) s
 
 fed-requires-2 : tie.Need-fed-requires-2
