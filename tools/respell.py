@@ -1,99 +1,107 @@
 #!/usr/bin/env python3
-"""Brings the repository's own names in specs/ and proofs/ to snake case: a-b becomes a_b.
+"""Brings the repository's own names in specs/ and proofs/ to snake case: a-b and aB become a_b.
 
-Run once, at the top, right after the kit's port.py. Own names are the top-level definitions of the .antt files of crates/,
-and what they name inside. A goal's name (its type is one of the function's) is Rattle's and stays. A
-file's tokens are changed where they are defined in it, are imported by it from a crate of the repository, or follow such
-an import's alias. Names that would fall together are printed, and nothing is written.
+Run at the top, after the kit's port.py; a second run changes nothing. Own names are the definitions of the .antt files of
+crates/, at the top and inside, and the fields of their records. A goal's name (its type is one of the function's) is
+Rattle's and stays. A file's words are changed where they are defined in it, are imported by it from a crate of the
+repository, or follow such an import's alias; the words of edits and of code in documents wherever a definition has them.
+Names that would fall together are printed, and nothing is written.
 """
 import glob
 import re
 import sys
 
-WORD = r"[^\s(){}.,;:λ\[\]]+"
+WORD = r"[^\s(){}.,;:λ\[\]`]+"
 HEAD = re.compile(r"^(?:(?:abbrev|unfoldable|opaque|pub|record|data)\s+)*(" + WORD + r")\s*(?:\([^:]*\)|\{[^:]*\})*\s*:(.*)")
+INSIDE = re.compile(r"^\s+(?:let |pub |abbrev |unfoldable )*(" + WORD + r")\s*(?::|=)\s")
+USE = re.compile(r"^(?:ghost |pub )?(?:ghost )?use ([^\s{;]+?)(?:\.\{([^}]*)\})?(?: as (\S+?))?;?$", re.M)
 
 
-def files():
-    return sorted(glob.glob("crates/*/specs/**/*.antt", recursive=True) + glob.glob("crates/*/proofs/**/*.antt", recursive=True))
+# Where the name in snake case is another's.
+OTHER = {"cursorAt": "cursor_after", "sameZ": "same_whole", "directionOf": "direction_of_point"}
+
+
+def snake(name):
+    if name in OTHER:
+        return OTHER[name]
+    if re.match(r"told[A-Z]", name):
+        return snake(name[4:]).lower() + "_told"
+    return re.sub(r"(?<=[a-z0-9])([A-Z]+)", lambda m: "_" + m.group(1).lower(), name.replace("-", "_"))
+
+
+def is_old(name):
+    return "◌" not in name and name[0].islower() and snake(name) != name
+
+
+def is_goal(kind):
+    return bool(re.search(r"\bNeed-|\bInv-|\bVar-|\bgoal\.|\btie\.", kind))
 
 
 def module(path):
     """The path under which a file is named."""
-    parts = path[:-len(".antt")].split("/")
-    return ".".join(["Rattle"] + parts[1:])
-
-
-def is_goal(kind):
-    return bool(re.search(r"\bNeed-|\bInv-|\bVar-|\bgoal\.", kind))
+    return ".".join(["Rattle"] + path[:-len(".antt")].split("/")[1:])
 
 
 def defined(text):
-    """The own names of a file: those to be changed, and all."""
+    """The own names of a file that are to be changed, and all that it defines at the top."""
     own, every = set(), set()
     for line in text.split("\n"):
-        if line.startswith(("use ", "pub use ", "--", " ", "mod ", "pub mod ")):
-            f = re.match(r"^\s+(?:let |pub |abbrev |unfoldable )*(" + WORD + r")\s*(?::|=)\s", line)
-            if f and "-" in f.group(1) and "◌" not in f.group(1):
-                own.add(f.group(1))
+        if line.startswith(("use ", "pub use ", "--", "mod ", "pub mod ")):
             continue
-        m = HEAD.match(line)
-        if not m:
-            continue
-        every.add(m.group(1))
-        if "-" in m.group(1) and not is_goal(m.group(2)) and "◌" not in m.group(1):
-            own.add(m.group(1))
+        inside = INSIDE.match(line)
+        head = HEAD.match(line)
+        if inside and is_old(inside.group(1)):
+            own.add(inside.group(1))
+        elif head:
+            every.add(head.group(1))
+            if is_old(head.group(1)) and not is_goal(head.group(2)):
+                own.add(head.group(1))
     return own, every
 
 
 def uses(text):
-    """Each import: its module, its names (old, new) and its alias."""
-    for m in re.finditer(r"^(?:ghost |pub )?(?:ghost )?use ([^\s{;]+?)(?:\.\{([^}]*)\})?(?: as (\S+?))?;?$", text, re.M):
-        yield m.group(1), [n.strip() for n in (m.group(2) or "").split(",") if n.strip()], m.group(3)
+    """Each import: its module, its names and its alias."""
+    for m in USE.finditer(text):
+        yield m.group(1), [n.strip().split(" as ")[0] for n in (m.group(2) or "").split(",") if n.strip()], m.group(3)
 
 
 def turn(text, names):
-    def word(m):
-        w = m.group(0)
-        return w.replace("-", "_") if w in names else w
-    return re.sub(r"(?<![^\s(){}.,;:λ\[\]`])[^\s(){}.,;:λ\[\]`]*-[^\s(){}.,;:λ\[\]`]*", word, text)
+    return re.sub(WORD, lambda m: snake(m.group(0)) if m.group(0) in names else m.group(0), text)
 
 
 def main():
-    own, every, texts = {}, {}, {}
-    for p in files():
-        texts[p] = open(p, encoding="utf-8").read()
-        own[module(p)], every[module(p)] = defined(texts[p])
-    for p in sorted(glob.glob("crates/*/src/*.rt")):
-        texts[p] = open(p, encoding="utf-8").read()
-    bad = []
+    texts = {}
+    for pattern in ("crates/*/specs/**/*.antt", "crates/*/proofs/**/*.antt", "crates/*/src/*.rt"):
+        for p in sorted(glob.glob(pattern, recursive=True)):
+            texts[p] = open(p, encoding="utf-8").read()
+    own, every = {}, {}
+    for p, t in texts.items():
+        if p.endswith(".antt"):
+            own[module(p)], every[module(p)] = defined(t)
+    anywhere = set().union(*own.values())
+    fields = {f for p, t in texts.items() if p.endswith(".antt") for f in re.findall(r"^  pub (" + WORD + r") :", t, re.M) if is_old(f)}
+    new, bad = {}, []
     for p, t in texts.items():
         here = module(p) if p.endswith(".antt") else None
-        names = set(own.get(here, ()))
-        taken = set(every.get(here, ()))
+        names, taken = set(own.get(here, ())), set(every.get(here, ()))
         for mod, items, alias in uses(t):
-            for n in items:
-                n = n.split(" as ")[0]
-                if n in own.get(mod, ()):
-                    names.add(n)
-                taken.add(n)
-            if alias:
-                names |= own.get(mod, set())
-        for n in names:
-            if n.replace("-", "_") in taken - {n}:
-                bad.append((p, n))
-        new = turn(t, names)
-        if new != t:
-            texts[p] = (t, new)
+            names |= {n for n in items if n in own.get(mod, ())} | (own.get(mod, set()) if alias else set())
+            taken |= set(items)
+        bad += [(p, n) for n in sorted(names) if snake(n) in taken]
+        new[p] = turn(t, names | {f for f in fields if "." + f in t})
+    for p in sorted(glob.glob("crates/*/must-fail/*.edit")):
+        texts[p] = open(p, encoding="utf-8").read()
+        new[p] = re.sub(r"^(?:old|new): .*$", lambda m: turn(m.group(0), anywhere), texts[p], flags=re.M)
+    for p in ["README.md"] + sorted(glob.glob("docs/*.md")):
+        texts[p] = open(p, encoding="utf-8").read()
+        new[p] = texts[p] if p == "docs/PORT.md" else re.sub(r"`[^`\n]*`", lambda m: turn(m.group(0), anywhere), texts[p])
     for p, n in bad:
         print(f"falls together: {p}: {n}")
+    changed = [p for p in texts if new[p] != texts[p]]
     if "--write" in sys.argv and not bad:
-        k = 0
-        for p, t in texts.items():
-            if isinstance(t, tuple):
-                open(p, "w", encoding="utf-8").write(t[1])
-                k += 1
-        print(k, "files")
+        for p in changed:
+            open(p, "w", encoding="utf-8").write(new[p])
+    print(len(changed), "files" if "--write" in sys.argv and not bad else "files would change")
 
 
 main()

@@ -12,7 +12,7 @@ use Rattle.entry.specs.Answers.{value_of}
 use Rattle.index.specs.Refusals.{◌when◌, Outcome, answered, refused, number_of, Met}
 use Rattle.index.proofs.Some.{both_off}
 use Rattle.index.proofs.Rules.{hit, past, none_answered, refused_met, answered_clear, answered_same}
-use Rattle.block_entries.specs.Blocks.{block_of, filled, valuesAfter, refusalsAfter}
+use Rattle.block_entries.specs.Blocks.{block_of, filled, values_after, refusals_after}
 use Rattle.block_entries.proofs.Fills.{neither}
 
 one_of : (a b : Bool) → a || b ≡ true → (a ≡ true) ⊎ (b ≡ true)
@@ -76,7 +76,7 @@ module _ (block values refusals : List ℕ) where
 
   module _ (entry : ℕ → Outcome ℕ) where
     -- a request that is refused leaves both as they were
-    pub untouched : Short → (valuesAfter entry block values refusals ≡ values) × (refusalsAfter entry block values refusals ≡ refusals)
+    pub untouched : Short → (values_after entry block values refusals ≡ values) × (refusals_after entry block values refusals ≡ refusals)
     untouched h =
         let e = (short 10).1 (refl, h) in
         (ap (λ (o : Outcome ℕ). filled o (λ n. value_of (entry n)) block values) e, ap (λ (o : Outcome ℕ). filled o (λ n. number_of (entry n)) block refusals) e)
@@ -90,7 +90,7 @@ module _ (block values refusals : List ℕ) where
 
       -- each element handed in has what the single entry gives for it
       pub element : (i : ℕ) → i < length block →
-          (get_or (valuesAfter entry block values refusals) i 0 ≡ value_of (entry (get_or block i 0))) × (get_or (refusalsAfter entry block values refusals) i 0 ≡ number_of (entry (get_or block i 0)))
+          (get_or (values_after entry block values refusals) i 0 ≡ value_of (entry (get_or block i 0))) × (get_or (refusals_after entry block values refusals) i 0 ≡ number_of (entry (get_or block i 0)))
       element i l = (
         ap (λ (x : List ℕ). get_or x i 0) (done (λ n. value_of (entry n)) values) ∙ new_at (λ n. value_of (entry n)) block (drop (length block) values) i l,
         ap (λ (x : List ℕ). get_or x i 0) (done (λ n. number_of (entry n)) refusals) ∙ new_at (λ n. number_of (entry n)) block (drop (length block) refusals) i l,
@@ -98,7 +98,7 @@ module _ (block values refusals : List ℕ) where
 
       -- later elements stay as they were
       pub later : (i : ℕ) → length block ≤ i →
-          (get_or (valuesAfter entry block values refusals) i 0 ≡ get_or values i 0) × (get_or (refusalsAfter entry block values refusals) i 0 ≡ get_or refusals i 0)
+          (get_or (values_after entry block values refusals) i 0 ≡ get_or values i 0) × (get_or (refusals_after entry block values refusals) i 0 ≡ get_or refusals i 0)
       later i l = (
         ap (λ (x : List ℕ). get_or x i 0) (done (λ n. value_of (entry n)) values) ∙ old_at (λ n. value_of (entry n)) block values i h.0 l,
         ap (λ (x : List ℕ). get_or x i 0) (done (λ n. number_of (entry n)) refusals) ∙ old_at (λ n. number_of (entry n)) block refusals i h.1 l,

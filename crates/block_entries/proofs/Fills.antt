@@ -14,7 +14,7 @@ use Rattle.entry.specs.Answers.{value_of}
 use Rattle.index.specs.Refusals.{Outcome, answered, refused, number_of}
 use Rattle.index.proofs.Some.{both_off}
 use Rattle.index.proofs.Rules.{past, hit, none_answered}
-use Rattle.block_entries.specs.Blocks.{block_of, filled, valuesAfter, refusalsAfter}
+use Rattle.block_entries.specs.Blocks.{block_of, filled, values_after, refusals_after}
 
 -- the first i elements are answered, and the others are as they were
 abbrev part : (ℕ → ℕ) → List ℕ → List ℕ → ℕ → List ℕ
@@ -48,7 +48,7 @@ pub record Filled (entry : ℕ → Outcome ℕ) (block v₀ r₀ v r : List ℕ)
 module _ (entry : ℕ → Outcome ℕ) (block v₀ r₀ : List ℕ) where
   -- what the entry over the block promises of its answer and of the lent blocks afterwards
   abbrev pub Done : Outcome ℕ → List ℕ → List ℕ → Type 0
-  Done o v r = (o ≡ block_of block v₀ r₀) × (v ≡ valuesAfter entry block v₀ r₀) × (r ≡ refusalsAfter entry block v₀ r₀)
+  Done o v r = (o ≡ block_of block v₀ r₀) × (v ≡ values_after entry block v₀ r₀) × (r ≡ refusals_after entry block v₀ r₀)
 
   pub no_room : (t : Bool) (x : ℕ) → t ≡ (ltb (length v₀) (length block) || ltb (length r₀) (length block)) → t ≡ true → x ≡ 10 → Done (refused x) v₀ r₀
   no_room t x e h k =

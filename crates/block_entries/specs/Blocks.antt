@@ -14,8 +14,8 @@ filled (refused k) f block lent = lent
 
 -- where `entry` is what the single entry gives for an element
 module _ (entry : ℕ → Outcome ℕ) (block values refusals : List ℕ) where
-  abbrev pub valuesAfter : List ℕ
-  valuesAfter = filled (block_of block values refusals) (λ n. value_of (entry n)) block values
+  abbrev pub values_after : List ℕ
+  values_after = filled (block_of block values refusals) (λ n. value_of (entry n)) block values
 
-  abbrev pub refusalsAfter : List ℕ
-  refusalsAfter = filled (block_of block values refusals) (λ n. number_of (entry n)) block refusals
+  abbrev pub refusals_after : List ℕ
+  refusals_after = filled (block_of block values refusals) (λ n. number_of (entry n)) block refusals

@@ -1,9 +1,9 @@
 // Entries over a block of numbers: what the single entry gives for each element.
 ghost use Rattle.std.specs.Prelude.{◌≡◌, ◌||◌, ltb};
-ghost use Rattle.index.specs.Check.{checkOf};
-ghost use Rattle.entry.specs.Answers.{toldNumber};
-ghost use Rattle.block_entries.specs.Blocks.{block_of, valuesAfter, refusalsAfter};
-ghost use Rattle.cell_entries.specs.Cells.{position_of, ancestorOf};
+ghost use Rattle.index.specs.Check.{check_of};
+ghost use Rattle.entry.specs.Answers.{number_told};
+ghost use Rattle.block_entries.specs.Blocks.{block_of, values_after, refusals_after};
+ghost use Rattle.cell_entries.specs.Cells.{position_of, ancestor_of};
 
 use cell_entries::{below, cut};
 use entry::Number;
@@ -21,7 +21,7 @@ fn is_short(n: usize, values: usize, refusals: usize) -> bool
 
 // The check, whose value is the number itself.
 fn kept(raw: u64) -> Number
-    ensures { toldNumber result ≡ checkOf raw }
+    ensures { number_told result ≡ check_of raw }
 {
     let a = index::check(raw);
     let index::Checked::Valid(_cell) = a else {
@@ -32,7 +32,7 @@ fn kept(raw: u64) -> Number
 }
 
 pub fn check_block(cells: &[u64], values: &mut [u64], refusals: &mut [u16]) -> Number
-    ensures { (toldNumber result ≡ block_of cells.now values.old refusals.old) × (values.new ≡ valuesAfter checkOf cells.now values.old refusals.old) × (refusals.new ≡ refusalsAfter checkOf cells.now values.old refusals.old) }
+    ensures { (number_told result ≡ block_of cells.now values.old refusals.old) × (values.new ≡ values_after check_of cells.now values.old refusals.old) × (refusals.new ≡ refusals_after check_of cells.now values.old refusals.old) }
 {
     let n = cells.len();
     if is_short(n, values.len(), refusals.len()) {
@@ -54,7 +54,7 @@ pub fn ancestor_block(
     values: &mut [u64],
     refusals: &mut [u16],
 ) -> Number
-    ensures { (toldNumber result ≡ block_of cells.now values.old refusals.old) × (values.new ≡ valuesAfter (λ raw. ancestorOf raw coarser) cells.now values.old refusals.old) × (refusals.new ≡ refusalsAfter (λ raw. ancestorOf raw coarser) cells.now values.old refusals.old) }
+    ensures { (number_told result ≡ block_of cells.now values.old refusals.old) × (values.new ≡ values_after (λ raw. ancestor_of raw coarser) cells.now values.old refusals.old) × (refusals.new ≡ refusals_after (λ raw. ancestor_of raw coarser) cells.now values.old refusals.old) }
 {
     let n = cells.len();
     if is_short(n, values.len(), refusals.len()) {
@@ -77,7 +77,7 @@ pub fn position_block(
     values: &mut [u64],
     refusals: &mut [u16],
 ) -> Number
-    ensures { (toldNumber result ≡ block_of seconds.now values.old refusals.old) × (values.new ≡ valuesAfter (position_of first) seconds.now values.old refusals.old) × (refusals.new ≡ refusalsAfter (position_of first) seconds.now values.old refusals.old) }
+    ensures { (number_told result ≡ block_of seconds.now values.old refusals.old) × (values.new ≡ values_after (position_of first) seconds.now values.old refusals.old) × (refusals.new ≡ refusals_after (position_of first) seconds.now values.old refusals.old) }
 {
     let n = seconds.len();
     if is_short(n, values.len(), refusals.len()) {

@@ -6,11 +6,11 @@ use Rattle.index.specs.Refusals.{Outcome}
 use Rattle.children.specs.Cursors.{next_of}
 use Rattle.children.specs.declared.children.Cursor.{Cursor}
 use Rattle.children.specs.declared.children.Given.{Given}
-use Rattle.entry.specs.Answers.{toldNumber}
+use Rattle.entry.specs.Answers.{number_told}
 use Rattle.entry.specs.declared.answers.Number.{Number}
 use Rattle.entry.proofs.Unique.{told_number}
 
-pub one_listing : (o : Outcome ℕ) (after : List ℕ) (r s : Number) (x y : List ℕ) → (toldNumber r ≡ o) × (x ≡ after) → (toldNumber s ≡ o) × (y ≡ after) → (r ≡ s) × (x ≡ y)
+pub one_listing : (o : Outcome ℕ) (after : List ℕ) (r s : Number) (x y : List ℕ) → (number_told r ≡ o) × (x ≡ after) → (number_told s ≡ o) × (y ≡ after) → (r ≡ s) × (x ≡ y)
 one_listing o after r s x y p q = (told_number r s (p.0 ∙ sym q.0), p.1 ∙ sym q.1)
 
 pub one_given : (c : Cursor) (r s : Given) → r ≡ next_of c → s ≡ next_of c → r ≡ s

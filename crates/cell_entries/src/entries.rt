@@ -1,10 +1,10 @@
 // Entries that take a cell: the check, its descendants and its ancestors.
 ghost use Rattle.std.specs.Prelude.{◌≡◌, ◌+◌, ◌≤◌, length};
-ghost use Rattle.index.specs.Layout.{Valid, resOf};
-ghost use Rattle.index.specs.Check.{checkOf, told};
+ghost use Rattle.index.specs.Layout.{Valid, res_of};
+ghost use Rattle.index.specs.Check.{check_of, told};
 ghost use Rattle.children.specs.Cursors.{next_of};
-ghost use Rattle.entry.specs.Answers.{toldChecked, toldNumber, toldStarted};
-ghost use Rattle.cell_entries.specs.Cells.{valid_of, count_of, childAtOf, cursorOf, roomOf, list_of, listShortOf, afterwards, position_of, ancestorOf};
+ghost use Rattle.entry.specs.Answers.{checked_told, number_told, started_told};
+ghost use Rattle.cell_entries.specs.Cells.{valid_of, count_of, child_at_of, cursor_of, room_of, list_of, list_short_of, afterwards, position_of, ancestor_of};
 
 use crate::finer::{Wanted, finer};
 use children::{Cursor, Given};
@@ -14,7 +14,7 @@ use index::{Cell, Resolution};
 use ranks::Found;
 
 pub fn check(raw: u64) -> Checked
-    ensures { toldChecked result ≡ valid_of raw }
+    ensures { checked_told result ≡ valid_of raw }
 {
     let a = index::check_flat(raw);
     let index::Checked::Valid(_cell) = a else {
@@ -24,7 +24,7 @@ pub fn check(raw: u64) -> Checked
 }
 
 pub fn count(raw: u64, target: u32) -> Number
-    ensures { toldNumber result ≡ count_of raw target }
+    ensures { number_told result ≡ count_of raw target }
 {
     let a = finer(raw, index::check(raw), target);
     let Wanted::At(cell, t) = a else {
@@ -34,7 +34,7 @@ pub fn count(raw: u64, target: u32) -> Number
 }
 
 pub fn child_at(raw: u64, target: u32, position: u64) -> Number
-    ensures { toldNumber result ≡ childAtOf raw target position }
+    ensures { number_told result ≡ child_at_of raw target position }
 {
     let a = finer(raw, index::check(raw), target);
     let Wanted::At(cell, t) = a else {
@@ -47,7 +47,7 @@ pub fn child_at(raw: u64, target: u32, position: u64) -> Number
 }
 
 pub fn cursor(raw: u64, target: u32) -> Started
-    ensures { toldStarted result ≡ cursorOf raw target }
+    ensures { started_told result ≡ cursor_of raw target }
 {
     let a = finer(raw, index::check(raw), target);
     let Wanted::At(cell, t) = a else {
@@ -64,8 +64,8 @@ pub fn next(cursor: Cursor) -> Given
 
 // The descendants of a cell, once only the room is left to judge.
 fn fill(cell: Cell, t: Resolution, buf: &mut [u64]) -> Number
-    requires { Valid cell.0 × (resOf cell.0 ≤ t.0) × (t.0 ≤ 15) }
-    ensures { (toldNumber result ≡ roomOf cell.0 t.0 (length buf.old)) × (buf.new ≡ afterwards (roomOf cell.0 t.0 (length buf.old)) cell.0 t.0 buf.old) }
+    requires { Valid cell.0 × (res_of cell.0 ≤ t.0) × (t.0 ≤ 15) }
+    ensures { (number_told result ≡ room_of cell.0 t.0 (length buf.old)) × (buf.new ≡ afterwards (room_of cell.0 t.0 (length buf.old)) cell.0 t.0 buf.old) }
 {
     let n = descent::children_count(cell, t);
     if (buf.len() as u64) < n {
@@ -76,7 +76,7 @@ fn fill(cell: Cell, t: Resolution, buf: &mut [u64]) -> Number
 }
 
 pub fn list(raw: u64, target: u32, buf: &mut [u64]) -> Number
-    ensures { (toldNumber result ≡ list_of raw target (length buf.old)) × (buf.new ≡ afterwards (list_of raw target (length buf.old)) raw target buf.old) }
+    ensures { (number_told result ≡ list_of raw target (length buf.old)) × (buf.new ≡ afterwards (list_of raw target (length buf.old)) raw target buf.old) }
 {
     let a = finer(raw, index::check(raw), target);
     let Wanted::At(cell, t) = a else {
@@ -86,7 +86,7 @@ pub fn list(raw: u64, target: u32, buf: &mut [u64]) -> Number
 }
 
 pub fn list_short(raw: u64, buf: &mut [u64]) -> Number
-    ensures { (toldNumber result ≡ listShortOf raw (length buf.old)) × (buf.new ≡ afterwards (listShortOf raw (length buf.old)) raw (resOf raw + 1) buf.old) }
+    ensures { (number_told result ≡ list_short_of raw (length buf.old)) × (buf.new ≡ afterwards (list_short_of raw (length buf.old)) raw (res_of raw + 1) buf.old) }
 {
     let a = index::check(raw);
     let index::Checked::Valid(cell) = a else {
@@ -101,8 +101,8 @@ pub fn list_short(raw: u64, buf: &mut [u64]) -> Number
 
 // The position of two cells whose checks are handed in.
 pub fn below(first: u64, a: index::Checked, second: u64, b: index::Checked) -> Number
-    requires { (told a ≡ checkOf first) × (told b ≡ checkOf second) }
-    ensures { toldNumber result ≡ position_of first second }
+    requires { (told a ≡ check_of first) × (told b ≡ check_of second) }
+    ensures { number_told result ≡ position_of first second }
 {
     let index::Checked::Valid(cell) = a else {
         return Number::Refused(a.refusal());
@@ -118,15 +118,15 @@ pub fn below(first: u64, a: index::Checked, second: u64, b: index::Checked) -> N
 }
 
 pub fn position(first: u64, second: u64) -> Number
-    ensures { toldNumber result ≡ position_of first second }
+    ensures { number_told result ≡ position_of first second }
 {
     below(first, index::check(first), second, index::check(second))
 }
 
 // The ancestor of a cell whose check is handed in.
 pub fn cut(raw: u64, a: index::Checked, coarser: u32) -> Number
-    requires { told a ≡ checkOf raw }
-    ensures { toldNumber result ≡ ancestorOf raw coarser }
+    requires { told a ≡ check_of raw }
+    ensures { number_told result ≡ ancestor_of raw coarser }
 {
     let index::Checked::Valid(cell) = a else {
         return Number::Refused(a.refusal());
@@ -142,7 +142,7 @@ pub fn cut(raw: u64, a: index::Checked, coarser: u32) -> Number
 }
 
 pub fn ancestor(raw: u64, coarser: u32) -> Number
-    ensures { toldNumber result ≡ ancestorOf raw coarser }
+    ensures { number_told result ≡ ancestor_of raw coarser }
 {
     cut(raw, index::check(raw), coarser)
 }

@@ -1,8 +1,8 @@
 // What every entry with a cell and a wanted finer resolution judges first: 1 to 7, then 8, then 9.
 ghost use Rattle.std.specs.Prelude.{◌≡◌};
 ghost use Rattle.index.specs.Refusals.{number_of};
-ghost use Rattle.index.specs.Check.{checkOf, told};
-ghost use Rattle.cell_entries.specs.Cells.{finerOf, toldWanted};
+ghost use Rattle.index.specs.Check.{check_of, told};
+ghost use Rattle.cell_entries.specs.Cells.{finer_of, wanted_told};
 
 use index::inside::{refusal, resolution, resolution_number, resolution_of};
 use index::{Cell, Refusal, Resolution};
@@ -16,7 +16,7 @@ pub(crate) enum Wanted {
 impl Wanted {
     // The refusal; 0 for a cell.
     pub(crate) fn refusal(self) -> Refusal
-        ensures { result.0 ≡ number_of (toldWanted self) }
+        ensures { result.0 ≡ number_of (wanted_told self) }
     {
         match self {
             Wanted::At(_, _) => refusal(0),
@@ -27,8 +27,8 @@ impl Wanted {
 
 // The check is handed in, so that each entry has its own: one that entries share is a call, with its answer in memory.
 pub(crate) fn finer(raw: u64, a: index::Checked, target: u32) -> Wanted
-    requires { told a ≡ checkOf raw }
-    ensures { toldWanted result ≡ finerOf raw target }
+    requires { told a ≡ check_of raw }
+    ensures { wanted_told result ≡ finer_of raw target }
 {
     let index::Checked::Valid(cell) = a else {
         return Wanted::Refused(a.refusal());

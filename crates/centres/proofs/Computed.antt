@@ -19,35 +19,35 @@ use Rattle.index.specs.Refusals.{Outcome, answered, refused}
 use Rattle.centres.specs.Centres.{StringOf, Reads}
 use Rattle.centres.proofs.Reading.{less_ij, longer, shorter}
 
-abbrev pub lastDigit : Bool → IJK → ℕ
-lastDigit o q = value (normal (minus q (down7 o (up7 o q))))
+abbrev pub last_digit : Bool → IJK → ℕ
+last_digit o q = value (normal (minus q (down7 o (up7 o q))))
 
-abbrev pub digitsOf : ℕ → IJK → List ℕ
-digitsOf zero q = []
-digitsOf (suc r) q = lastDigit (odd (suc r)) q ∷ digitsOf r (up7 (odd (suc r)) q)
+abbrev pub digits_of : ℕ → IJK → List ℕ
+digits_of zero q = []
+digits_of (suc r) q = last_digit (odd (suc r)) q ∷ digits_of r (up7 (odd (suc r)) q)
 
 abbrev pub rest_of : ℕ → IJK → IJK
 rest_of zero q = q
 rest_of (suc r) q = rest_of r (up7 (odd (suc r)) q)
 
 abbrev pub read_of : ℕ → IJK → Outcome ℕ
-read_of r p = cond (same (rest_of r p) (vec 0 0 0)) (answered (pack 0 (digitsOf r p))) (refused 15)
+read_of r p = cond (same (rest_of r p) (vec 0 0 0)) (answered (pack 0 (digits_of r p))) (refused 15)
 
-last : (o : Bool) (q : IJK) → (lastDigit o q < 7) × Same q (plus (down7 o (up7 o q)) (unit (lastDigit o q)))
+last : (o : Bool) (q : IJK) → (last_digit o q < 7) × Same q (plus (down7 o (up7 o q)) (unit (last_digit o q)))
 last o q =
     let w = some_way o q in
     let t = down7 o (up7 o q) in
     let u = unit w.0 in
     let e : ij (minus q t) ≡ ij u = ij_minus q t ∙ ap (λ (p : IJ). p ⊖ ij t) (same_ij q (plus t u) w.2 ∙ ij_plus t u) ∙ less_ij (ij t) (ij u) in
-    let d : w.0 ≡ lastDigit o q = sym (ap value (ij_same (minus q t) u e) ∙ unit_value w.0 w.1) in
+    let d : w.0 ≡ last_digit o q = sym (ap value (ij_same (minus q t) u e) ∙ unit_value w.0 w.1) in
     (subst (λ (x : ℕ). x < 7) d w.1, subst (λ (x : ℕ). Same q (plus t (unit x))) d w.2)
 
-string : (r : ℕ) (p : IJK) → Same (rest_of r p) (vec 0 0 0) → StringOf r p (digitsOf r p)
+string : (r : ℕ) (p : IJK) → Same (rest_of r p) (vec 0 0 0) → StringOf r p (digits_of r p)
 string zero p e = record { long = refl; digits = tt; point = sym e }
 string (suc r) p e =
     let o = odd (suc r) in
     let l = last o p in
-    longer r (lastDigit o p) (digitsOf r (up7 o p)) p l.0 l.1 (string r (up7 o p) e)
+    longer r (last_digit o p) (digits_of r (up7 o p)) p l.0 l.1 (string r (up7 o p) e)
 
 rest : (r : ℕ) (p : IJK) (ds : List ℕ) → StringOf r p ds → Same (rest_of r p) (vec 0 0 0)
 rest zero p [] s = sym s.point
@@ -57,6 +57,6 @@ rest (suc r) p ds s = let x = shorter r ds p s in rest r (up7 (odd (suc r)) p) x
 pub computed : (r : ℕ) (p : IJK) → Reads r p (read_of r p)
 computed r p = go (same (rest_of r p) (vec 0 0 0)) refl
   where
-    go : (b : Bool) → same (rest_of r p) (vec 0 0 0) ≡ b → Reads r p (cond b (answered (pack 0 (digitsOf r p))) (refused 15))
-    go true e = (digitsOf r p, string r p ((same_test (rest_of r p) (vec 0 0 0)).0 (subst T (sym e) tt)), refl)
+    go : (b : Bool) → same (rest_of r p) (vec 0 0 0) ≡ b → Reads r p (cond b (answered (pack 0 (digits_of r p))) (refused 15))
+    go true e = (digits_of r p, string r p ((same_test (rest_of r p) (vec 0 0 0)).0 (subst T (sym e) tt)), refl)
     go false e = (refl, λ ds s. subst T e ((same_test (rest_of r p) (vec 0 0 0)).1 (rest r p ds s)))

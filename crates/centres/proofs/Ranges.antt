@@ -18,10 +18,10 @@ use Rattle.plane.proofs.Bounds.{abs_add, abs_mul}
 use Rattle.plane.proofs.Pairs.{◌⊕◌, down_ij}
 use Rattle.plane.proofs.Centres.{down_add, ij_centre, centre_normal}
 use Rattle.plane.proofs.Sizes.{normal_within}
-use Rattle.index.specs.Layout.{resOf, Valid}
+use Rattle.index.specs.Layout.{res_of, Valid}
 use Rattle.index.specs.View.{used}
 use Rattle.index.proofs.View.{fit}
-use Rattle.centres.specs.Centres.{centreOf}
+use Rattle.centres.specs.Centres.{centre_of}
 
 module _ (x y : ℤ) where
   law_1 : pos 3 *ℤ (pos 2 *ℤ x +ℤ y) -ℤ (pos 3 *ℤ y -ℤ x) ≡ pos 7 *ℤ x
@@ -87,16 +87,16 @@ centre_small (d ∷ e ∷ ds) h =
 bound_small : (r : ℕ) → r < 16 → bound r ≤ 50000000
 bound_small = at_le 16 50000000 bound tt
 
-pub centre_within : (n : ℕ) → Valid n → Within 100000000 (centreOf n)
-unfolding centreOf
+pub centre_within : (n : ℕ) → Valid n → Within 100000000 (centre_of n)
+unfolding centre_of
 centre_within n v =
-    let ds = used n (resOf n) in
+    let ds = used n (res_of n) in
     let s = centre_small ds (fit n v).digits in
     let l : bound (length ds) ≤ 50000000 = bound_small (length ds) (omega (arith, (fit n v).short)) in
     subst (Within 100000000) (centre_normal ds) (normal_within 50000000 (centre ds) (record { i = omega (arith, s.i); j = omega (arith, s.j) }))
 
-pub centre_in_range : (n : ℕ) → Valid n → T (point_in_range (centreOf n))
+pub centre_in_range : (n : ℕ) → Valid n → T (point_in_range (centre_of n))
 centre_in_range n v =
     let w = centre_within n v in
-    let t = centreOf n in
+    let t = centre_of n in
     both (in_range t.i) _ (le→leb (nat_abs t.i) 100000000 w.i) (both (in_range t.j) (in_range t.k) (le→leb (nat_abs t.j) 100000000 w.j) (le→leb (nat_abs t.k) 100000000 w.k))

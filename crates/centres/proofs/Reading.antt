@@ -23,7 +23,7 @@ use Rattle.plane.proofs.Units.{direction_found}
 use Rattle.plane.proofs.Ups.{up_ij, some_way}
 use Rattle.plane.proofs.Centres.{same_under, up_centre}
 use Rattle.plane.proofs.Sizes.{normal_within, up_broad, under_broad}
-use Rattle.index.specs.Layout.{digit, top_bit, mode_of, reservedOf, resOf, base_of, Valid}
+use Rattle.index.specs.Layout.{digit, top_bit, mode_of, reserved_of, res_of, base_of, Valid}
 use Rattle.index.specs.View.{used, pack}
 use Rattle.index.specs.Refusals.{Outcome, answered, refused}
 use Rattle.index.specs.Written.{Written, WithDigits}
@@ -159,8 +159,8 @@ module _ (n k : ℕ) (hk : k ≤ 15) (e : n ≡ 2 ^ 59 + k * 2 ^ 52 + 0 * 2 ^ 45
   low_lt : 2 ^ 45 - 1 < 2 ^ 45
   low_lt = omega arith
 
-  unset_res : resOf n ≡ k
-  unset_res = ap resOf e ∙ sum_res k 0 (2 ^ 45 - 1) hk (omega arith) low_lt
+  unset_res : res_of n ≡ k
+  unset_res = ap res_of e ∙ sum_res k 0 (2 ^ 45 - 1) hk (omega arith) low_lt
 
   unset_base : base_of n ≡ 0
   unset_base = ap base_of e ∙ sum_base k 0 (2 ^ 45 - 1) hk (omega arith) low_lt
@@ -181,7 +181,7 @@ module _ (n k : ℕ) (hk : k ≤ 15) (e : n ≡ 2 ^ 59 + k * 2 ^ 52 + 0 * 2 ^ 45
         digits = ap (used y) unset_res;
         rest = λ x g l. w.rest x (subst (λ (m : ℕ). m < x) unset_res g) l;
       } in
-      let f : y ≡ pack (base_of n) (used y k) = redrawn_pack n (used y k) y h (ap top_bit e ∙ sum_top k 0 (2 ^ 45 - 1) hk (omega arith) low_lt) (ap mode_of e ∙ sum_mode k 0 (2 ^ 45 - 1) hk (omega arith) low_lt) (ap reservedOf e ∙ sum_reserved k 0 (2 ^ 45 - 1) hk (omega arith) low_lt) (λ r g l. unset_seven r (omega arith) l) d in
+      let f : y ≡ pack (base_of n) (used y k) = redrawn_pack n (used y k) y h (ap top_bit e ∙ sum_top k 0 (2 ^ 45 - 1) hk (omega arith) low_lt) (ap mode_of e ∙ sum_mode k 0 (2 ^ 45 - 1) hk (omega arith) low_lt) (ap reserved_of e ∙ sum_reserved k 0 (2 ^ 45 - 1) hk (omega arith) low_lt) (λ r g l. unset_seven r (omega arith) l) d in
       let f0 : y ≡ pack 0 (used y k) = f ∙ ap (λ (b : ℕ). pack b (used y k)) unset_base in
       let short : length (used y k) ≤ 15 = rw length_used hk in
       (f0, subst Valid (sym f0) (pack_valid 0 (used y k) (bare 0 (used y k) (omega arith) short (w.small y (λ s g l. refl) tt))))

@@ -8,13 +8,13 @@ use Rattle.plane.specs.Points.{normal}
 use Rattle.plane.specs.Strings.{centre}
 use Rattle.plane.specs.declared.ijk.IJK.{IJK}
 use Rattle.plane.proofs.Centres.{one_centre, centre_normal}
-use Rattle.index.specs.Layout.{base_of, resOf, Valid}
+use Rattle.index.specs.Layout.{base_of, res_of, Valid}
 use Rattle.index.specs.View.{used, pack, Fit}
 use Rattle.index.specs.Refusals.{Outcome, answered, refused}
 use Rattle.index.proofs.Runs.{length_used}
 use Rattle.index.proofs.View.{fit, pack_valid, pack_base, pack_res, pack_used}
 use Rattle.index.proofs.Loose.{bare}
-use Rattle.centres.specs.Centres.{centreOf, StringOf, Reads}
+use Rattle.centres.specs.Centres.{centre_of, StringOf, Reads}
 
 pub one_string : (r : ℕ) (p : IJK) (ds es : List ℕ) → StringOf r p ds → StringOf r p es → ds ≡ es
 one_string r p ds es a b = one_centre ds es (a.long ∙ sym b.long) a.digits b.digits (sym (centre_normal ds) ∙ a.point ∙ sym b.point ∙ centre_normal es)
@@ -29,11 +29,11 @@ one_reading r p (refused k) (refused m) a b = ap refused (a.0 ∙ sym b.0)
 pub record Found (r : ℕ) (p : IJK) (n : ℕ) : Type 0 where
   pub cell : Valid n
   pub base : base_of n ≡ 0
-  pub res : resOf n ≡ r
-  pub centre : centreOf n ≡ normal p
+  pub res : res_of n ≡ r
+  pub centre : centre_of n ≡ normal p
 
 pub found_centre : (r : ℕ) (p : IJK) (n : ℕ) → r ≤ 15 → Reads r p (answered n) → Found r p n
-unfolding centreOf
+unfolding centre_of
 found_centre r p n h a =
     let ds = a.0 in
     let s = a.1 in
@@ -47,9 +47,9 @@ found_centre r p n h a =
       centre = ap centre (ap (used (pack 0 ds)) (pack_res 0 ds f) ∙ pack_used 0 ds f) ∙ sym (centre_normal ds) ∙ s.point;
     })
 
-pub centre_found : (n : ℕ) → Valid n → (x : Outcome ℕ) → Reads (resOf n) (centreOf n) x → x ≡ answered (pack 0 (used n (resOf n)))
-unfolding centreOf
+pub centre_found : (n : ℕ) → Valid n → (x : Outcome ℕ) → Reads (res_of n) (centre_of n) x → x ≡ answered (pack 0 (used n (res_of n)))
+unfolding centre_of
 centre_found n v x a =
-    let ds = used n (resOf n) in
-    one_reading (resOf n) (centreOf n) x (answered (pack 0 ds)) a
-    (ds, record { long = length_used n (resOf n); digits = (fit n v).digits; point = refl }, refl)
+    let ds = used n (res_of n) in
+    one_reading (res_of n) (centre_of n) x (answered (pack 0 ds)) a
+    (ds, record { long = length_used n (res_of n); digits = (fit n v).digits; point = refl }, refl)

@@ -3,15 +3,15 @@ use Rattle.std.specs.Prelude.{◌≡◌, List, ℕ, length}
 use Rattle.plane.specs.Points.{Same}
 use Rattle.plane.specs.Strings.{Digits, centre}
 use Rattle.plane.specs.declared.ijk.IJK.{IJK}
-use Rattle.index.specs.Layout.{resOf}
+use Rattle.index.specs.Layout.{res_of}
 use Rattle.index.specs.View.{used, pack}
 use Rattle.index.specs.Refusals.{Outcome, answered, refused}
 use Rattle.centres.specs.declared.centre.Read.{Read}
 use Rattle.centres.specs.declared.centre.Read.TheVariants.{Found, NoString}
 
 -- it takes a cell and reads its used digits only, whatever the base cell
-unfoldable pub centreOf : ℕ → IJK
-centreOf n = centre (used n (resOf n))
+unfoldable pub centre_of : ℕ → IJK
+centre_of n = centre (used n (res_of n))
 
 -- a digit string of a length, with a centre
 pub record StringOf (r : ℕ) (p : IJK) (ds : List ℕ) : Type 0 where
@@ -26,6 +26,6 @@ Reads r p (answered n) = (ds : List ℕ) × StringOf r p ds × (n ≡ pack 0 ds)
 Reads r p (refused k) = (k ≡ 15) × ((ds : List ℕ) → StringOf r p ds → ⊥)
 
 -- the document's number and value of each answer
-abbrev pub toldRead : Read → Outcome ℕ
-toldRead (Found c) = answered c.0
-toldRead NoString = refused 15
+abbrev pub read_told : Read → Outcome ℕ
+read_told (Found c) = answered c.0
+read_told NoString = refused 15

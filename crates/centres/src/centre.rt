@@ -4,7 +4,7 @@ ghost use Rattle.plane.specs.Directions.{unit};
 ghost use Rattle.plane.specs.Points.{Same, plus, down7, up7};
 ghost use Rattle.plane.specs.Ranges.{Within, Broad};
 ghost use Rattle.index.specs.Layout.{Valid};
-ghost use Rattle.centres.specs.Centres.{centreOf, Reads, toldRead};
+ghost use Rattle.centres.specs.Centres.{centre_of, Reads, read_told};
 
 use index::inside::ONE_RESOLUTION;
 use index::{Cell, Resolution, inside};
@@ -19,7 +19,7 @@ const COARSEST: u64 = 0x0800_1fff_ffff_ffff;
 // The centre of a cell's used digits, whatever the base cell.
 pub fn centre(c: Cell) -> IJK
     requires { Valid c.0 }
-    ensures { result ≡ centreOf c.0 }
+    ensures { result ≡ centre_of c.0 }
 {
     let n = inside::number_of(c);
     let k = inside::resolution_number(inside::resolution_of(c));
@@ -67,7 +67,7 @@ fn finest(q: IJK, up: IJK, o: bool) -> Direction
 // The string of a length whose centre is p, as the cell of base cell 0 with those digits.
 pub fn read_back(length: Resolution, p: IJK) -> Read
     requires { (length.0 ≤ 15) × (Within 100000000 p) }
-    ensures { Reads length.0 p (toldRead result) }
+    ensures { Reads length.0 p (read_told result) }
 {
     let mut n = unset(length);
     let mut r = inside::resolution_number(length);

@@ -13,14 +13,14 @@ use borrow.Author.Tests.{lt-ltb, le-ltb, eq-eqb, ne_eqb}
 use Rattle.index.specs.View.{octal, first}
 use Rattle.descent.specs.Descendants.{count}
 use Rattle.descent.specs.Positions.{below}
-use Rattle.children.specs.Skips.{lead, sameZ}
+use Rattle.children.specs.Skips.{lead, same_whole}
 use Rattle.descent.proofs.Counts.{up}
 use Rattle.descent.proofs.Below.{first_zero, first_far}
 use Rattle.descent.proofs.Strings.{first_append}
 
 -- the digit 1 of resolution r is skipped
-abbrev pub skipsAt : ℤ → ℕ → Bool
-skipsAt s r = sameZ s (pos r)
+abbrev pub skips_at : ℤ → ℕ → Bool
+skips_at s r = same_whole s (pos r)
 
 -- the m lowest digits of x with eight as its base, the finest first
 unfoldable pub octs : ℕ → ℕ → List ℕ
@@ -31,12 +31,12 @@ octs (suc m) x = x % 8 ∷ octs m (x / 8)
 unfoldable pub carried : ℤ → ℕ → List ℕ → List ℕ
 carried s own [] = []
 carried s own (d ∷ ds) =
-    cond (eqb d 0 && skipsAt s (own + suc (length ds))) (2 ∷ ds) (cond (ltb d 6) (suc d ∷ ds) (0 ∷ carried s own ds))
+    cond (eqb d 0 && skips_at s (own + suc (length ds))) (2 ∷ ds) (cond (ltb d 6) (suc d ∷ ds) (0 ∷ carried s own ds))
 
 -- the skip after it
 unfoldable pub fallen : ℤ → ℕ → List ℕ → ℤ
 fallen s own [] = s
-fallen s own (d ∷ ds) = cond (eqb d 0 && skipsAt s (own + suc (length ds))) (pred_ℤ s) (cond (ltb d 6) s (fallen s own ds))
+fallen s own (d ∷ ds) = cond (eqb d 0 && skips_at s (own + suc (length ds))) (pred_ℤ s) (cond (ltb d 6) s (fallen s own ds))
 
 -- the number y and the skip s after the number x and the skip z
 pub record Advanced (x : ℕ) (z : ℤ) (own target y : ℕ) (s : ℤ) : Type 0 where
@@ -83,7 +83,7 @@ pub record Stepped (t : Bool) (own : ℕ) (ds es : List ℕ) : Type 0 where
   pub digits : carried (mark t own ds) own ds ≡ es
   pub skip : fallen (mark t own ds) own ds ≡ mark t own es
 
-off : (d : ℕ) (s : ℤ) (r : ℕ) → skipsAt s r ≡ false → eqb d 0 && skipsAt s r ≡ false
+off : (d : ℕ) (s : ℤ) (r : ℕ) → skips_at s r ≡ false → eqb d 0 && skips_at s r ≡ false
 off d s r e = rw e (either (eqb d 0))
   where
     either : (b : Bool) → b && false ≡ false
@@ -91,11 +91,11 @@ off d s r e = rw e (either (eqb d 0))
     either false = refl
 
 -- no skip here and a digit below 6
-low : (s : ℤ) (own d : ℕ) (ds : List ℕ) → skipsAt s (own + suc (length ds)) ≡ false → d < 6 → (carried s own (d ∷ ds) ≡ suc d ∷ ds) × (fallen s own (d ∷ ds) ≡ s)
+low : (s : ℤ) (own d : ℕ) (ds : List ℕ) → skips_at s (own + suc (length ds)) ≡ false → d < 6 → (carried s own (d ∷ ds) ≡ suc d ∷ ds) × (fallen s own (d ∷ ds) ≡ s)
 unfolding carried fallen
 low s own d ds e h = let o = off d s (own + suc (length ds)) e in (rw (o, lt-ltb d 6 h), rw (o, lt-ltb d 6 h))
 
-six : (s : ℤ) (own d : ℕ) (ds : List ℕ) → skipsAt s (own + suc (length ds)) ≡ false → d ≡ 6 → (carried s own (d ∷ ds) ≡ 0 ∷ carried s own ds) × (fallen s own (d ∷ ds) ≡ fallen s own ds)
+six : (s : ℤ) (own d : ℕ) (ds : List ℕ) → skips_at s (own + suc (length ds)) ≡ false → d ≡ 6 → (carried s own (d ∷ ds) ≡ 0 ∷ carried s own ds) × (fallen s own (d ∷ ds) ≡ fallen s own ds)
 unfolding carried fallen
 six s own d ds e h = let o = off d s (own + suc (length ds)) e in let l = le-ltb d 6 (omega arith) in (rw (o, l), rw (o, l))
 
@@ -136,7 +136,7 @@ pentagon_step own (suc m) (suc p) h =
     let ds : List ℕ = x % 7 ∷ tl in
     let f : 2 ≤ first ds = first_far (suc m) (suc p) (omega arith) (omega arith) in
     let z : lead ds ≡ lead tl = lead_cons (x % 7) tl (λ e. omega arith) in
-    let k : skipsAt (mark true own ds) (own + suc (length tl)) ≡ false = ne_eqb (own + lead ds) (own + suc (length tl)) (λ e. omega (arith, lead_le tl)) in
+    let k : skips_at (mark true own ds) (own + suc (length tl)) ≡ false = ne_eqb (own + lead ds) (own + suc (length tl)) (λ e. omega (arith, lead_le tl)) in
     ⊎_elim
     (λ (q : x % 7 ≡ 6).
     let a : suc x % 7 ≡ 0 = omega arith in

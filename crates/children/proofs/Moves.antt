@@ -11,15 +11,15 @@ use lib.ListN.{length, get_or, drop}
 use lib.Signed.{mag}
 use mir.Syntax.{w32}
 use mir.Val.{SFits}
-use Rattle.index.specs.Layout.{digit, resOf, base_of, first_of, isPentagonal, Valid}
-use Rattle.index.specs.Ancestor.{ancestorOf}
+use Rattle.index.specs.Layout.{digit, res_of, base_of, first_of, is_pentagonal, Valid}
+use Rattle.index.specs.Ancestor.{ancestor_of}
 use Rattle.index.specs.View.{used, octal, first}
 use Rattle.plane.specs.Strings.{Digits}
 use Rattle.index.proofs.Runs.{place, place_suc, length_used}
 use Rattle.index.proofs.View.{first_used}
 use Rattle.descent.specs.Descendants.{pentagon, count_of}
-use Rattle.descent.specs.Positions.{below, childAt, position_of}
-use Rattle.children.specs.Skips.{lead, skipOf, Inner, Following}
+use Rattle.descent.specs.Positions.{below, child_at, position_of}
+use Rattle.children.specs.Skips.{lead, skip_of, Inner, Following}
 use Rattle.children.proofs.Carry.{octs, carried, fallen, Advanced}
 use Rattle.descent.proofs.Below.{length_below, digits_below, first_zero}
 use Rattle.descent.proofs.Start.{child_fits, child_valid, child_res, child_used, child_sum, some_child}
@@ -45,48 +45,48 @@ octs_front [] ys k x e = refl
 octs_front (a ∷ xs) ys zero x e = absurd (suc-ne-zero _ (sym (ap length e)))
 octs_front (a ∷ xs) ys (suc k) x e = rw (octs_front xs ys k (x / 8) (ap (λ (l : List ℕ). drop 1 l) e), ap (λ (l : List ℕ). get_or l 0 0) e)
 
-module _ (n t : ℕ) (h64 : n < 2 ^ 64) (v : Valid n) (lo : resOf n ≤ t) (hi : t ≤ 15) where
+module _ (n t : ℕ) (h64 : n < 2 ^ 64) (v : Valid n) (lo : res_of n ≤ t) (hi : t ≤ 15) where
   abbrev f : Bool
   f = pentagon n
 
   abbrev m : ℕ
-  m = t - resOf n
+  m = t - res_of n
 
-  pub child_octs : (p : ℕ) → p < count_of n t → octs m (childAt n t p / 8 ^ (15 - t)) ≡ below f m p
+  pub child_octs : (p : ℕ) → p < count_of n t → octs m (child_at n t p / 8 ^ (15 - t)) ≡ below f m p
   child_octs p hp =
-      let y : ℕ = childAt n t p in
-      let w : octs t (y / 8 ^ (15 - t)) ≡ below f m p ++ used n (resOf n) = sym (used_octs y t hi) ∙ child_used n t h64 v lo hi p hp in
-      subst (λ (k : ℕ). octs k (y / 8 ^ (15 - t)) ≡ below f m p) (length_below f m p) (octs_front (below f m p) (used n (resOf n)) t (y / 8 ^ (15 - t)) w)
+      let y : ℕ = child_at n t p in
+      let w : octs t (y / 8 ^ (15 - t)) ≡ below f m p ++ used n (res_of n) = sym (used_octs y t hi) ∙ child_used n t h64 v lo hi p hp in
+      subst (λ (k : ℕ). octs k (y / 8 ^ (15 - t)) ≡ below f m p) (length_below f m p) (octs_front (below f m p) (used n (res_of n)) t (y / 8 ^ (15 - t)) w)
 
-  pub child_skip : (p : ℕ) → p < count_of n t → skipOf n (childAt n t p) ≡ mark f (resOf n) (below f m p)
+  pub child_skip : (p : ℕ) → p < count_of n t → skip_of n (child_at n t p) ≡ mark f (res_of n) (below f m p)
   child_skip p hp = rw (child_res n t h64 v lo hi p hp, child_used n t h64 v lo hi p hp) (go f refl (below f m p))
     where
-      go : (b : Bool) → f ≡ b → (xs : List ℕ) → cond b (pos (lead (xs ++ used n (resOf n)))) (negsuc 0) ≡ mark b (resOf n) xs
+      go : (b : Bool) → f ≡ b → (xs : List ℕ) → cond b (pos (lead (xs ++ used n (res_of n)))) (negsuc 0) ≡ mark b (res_of n) xs
       go false e xs = refl
       go true e xs =
-          let z : first (used n (resOf n)) ≡ 0 = first_used n (resOf n) ∙ (and_zero (isPentagonal (base_of n)) (first_of n (resOf n)) e).1 in
-          ap pos (lead_append xs (used n (resOf n)) z ∙ rw (length_used n (resOf n)))
+          let z : first (used n (res_of n)) ≡ 0 = first_used n (res_of n) ∙ (and_zero (is_pentagonal (base_of n)) (first_of n (res_of n)) e).1 in
+          ap pos (lead_append xs (used n (res_of n)) z ∙ rw (length_used n (res_of n)))
 
-  pub first_skip : skipOf n (childAt n t 0) ≡ cond f (pos t) (negsuc 0)
+  pub first_skip : skip_of n (child_at n t 0) ≡ cond f (pos t) (negsuc 0)
   first_skip = child_skip 0 (some_child n t h64 v lo hi) ∙ go f
     where
-      go : (b : Bool) → mark b (resOf n) (below b m 0) ≡ cond b (pos t) (negsuc 0)
+      go : (b : Bool) → mark b (res_of n) (below b m 0) ≡ cond b (pos t) (negsuc 0)
       go false = refl
       go true = ap pos (rw (lead_none (below true m 0) (first_zero m), length_below true m 0) (omega arith))
 
   -- what `advance` asks
-  pub asked : (p : ℕ) → p < count_of n t → (resOf n ≤ t) × (t ≤ 15) × (childAt n t p < 2 ^ 60) × Digits (octs (t - resOf n) (childAt n t p / 8 ^ (15 - t)))
+  pub asked : (p : ℕ) → p < count_of n t → (res_of n ≤ t) × (t ≤ 15) × (child_at n t p < 2 ^ 60) × Digits (octs (t - res_of n) (child_at n t p / 8 ^ (15 - t)))
   asked p hp = (lo, hi, child_fits n t h64 v lo hi p hp, subst Digits (sym (child_octs p hp)) (digits_below f m p))
 
-  pub moved : (p y : ℕ) (s : ℤ) → suc p < count_of n t → Advanced (childAt n t p) (skipOf n (childAt n t p)) (resOf n) t y s → (y ≡ childAt n t (suc p)) × (s ≡ skipOf n (childAt n t (suc p)))
+  pub moved : (p y : ℕ) (s : ℤ) → suc p < count_of n t → Advanced (child_at n t p) (skip_of n (child_at n t p)) (res_of n) t y s → (y ≡ child_at n t (suc p)) × (s ≡ skip_of n (child_at n t (suc p)))
   moved p y s h a =
       let hp : p < count_of n t = omega arith in
       let u : ℕ = 8 ^ (15 - t) in
-      let w = step f (resOf n) m p h in
-      let c : carried (skipOf n (childAt n t p)) (resOf n) (octs m (childAt n t p / u)) ≡ below f m (suc p) = rw (child_skip p hp, child_octs p hp) w.digits in
-      let g : fallen (skipOf n (childAt n t p)) (resOf n) (octs m (childAt n t p / u)) ≡ mark f (resOf n) (below f m (suc p)) = rw (child_skip p hp, child_octs p hp) w.skip in
-      let d : y + u * octal (below f m p) ≡ childAt n t p + u * octal (below f m (suc p)) = rw (c, child_octs p hp) at a.digits in (
-        lin y (childAt n t p) (childAt n t (suc p)) (u * octal (below f m p)) (u * octal (below f m (suc p))) (childAt n t 0) d (child_sum n t h64 v lo hi p hp) (child_sum n t h64 v lo hi (suc p) h),
+      let w = step f (res_of n) m p h in
+      let c : carried (skip_of n (child_at n t p)) (res_of n) (octs m (child_at n t p / u)) ≡ below f m (suc p) = rw (child_skip p hp, child_octs p hp) w.digits in
+      let g : fallen (skip_of n (child_at n t p)) (res_of n) (octs m (child_at n t p / u)) ≡ mark f (res_of n) (below f m (suc p)) = rw (child_skip p hp, child_octs p hp) w.skip in
+      let d : y + u * octal (below f m p) ≡ child_at n t p + u * octal (below f m (suc p)) = rw (c, child_octs p hp) at a.digits in (
+        lin y (child_at n t p) (child_at n t (suc p)) (u * octal (below f m p)) (u * octal (below f m (suc p))) (child_at n t 0) d (child_sum n t h64 v lo hi p hp) (child_sum n t h64 v lo hi (suc p) h),
         a.skip ∙ g ∙ sym (child_skip (suc p) h),
       )
     where
@@ -96,70 +96,70 @@ module _ (n t : ℕ) (h64 : n < 2 ^ 64) (v : Valid n) (lo : resOf n ≤ t) (hi :
 -- in the words of `advance`'s contract
 module _ (y own : ℕ) (z : ℤ) (h64 : y < 2 ^ 64) (i : Inner y z own) where
   abbrev n : ℕ
-  n = ancestorOf y own
+  n = ancestor_of y own
 
   abbrev p : ℕ
   p = position_of n y
 
-  there : childAt n (resOf y) p ≡ y
+  there : child_at n (res_of y) p ≡ y
   there = (among_children y own h64 i.valid i.low).1
 
-  same_own : resOf n ≡ own
+  same_own : res_of n ≡ own
   same_own = own_is y own h64 i.valid i.low
 
-  pub inner_asked : (target : ℕ) → target ≡ resOf y → (own ≤ target) × (target ≤ 15) × (y < 2 ^ 60) × Digits (octs (target - own) (y / 8 ^ (15 - target)))
+  pub inner_asked : (target : ℕ) → target ≡ res_of y → (own ≤ target) × (target ≤ 15) × (y < 2 ^ 60) × Digits (octs (target - own) (y / 8 ^ (15 - target)))
   inner_asked target e =
-      let a = asked n (resOf y) (owner_fits y own h64 i.valid i.low) (owner_valid y own h64 i.valid i.low) (owner_low y own h64 i.valid i.low) (omega arith) p (among_children y own h64 i.valid i.low).0 in
-      let b : (own ≤ resOf y) × (resOf y ≤ 15) × (y < 2 ^ 60) × Digits (octs (resOf y - own) (y / 8 ^ (15 - resOf y))) =
-      subst (λ (o : ℕ). (o ≤ resOf y) × (resOf y ≤ 15) × (y < 2 ^ 60) × Digits (octs (resOf y - o) (y / 8 ^ (15 - resOf y)))) same_own
-      (subst (λ (x : ℕ). (resOf n ≤ resOf y) × (resOf y ≤ 15) × (x < 2 ^ 60) × Digits (octs (resOf y - resOf n) (x / 8 ^ (15 - resOf y)))) there a) in
+      let a = asked n (res_of y) (owner_fits y own h64 i.valid i.low) (owner_valid y own h64 i.valid i.low) (owner_low y own h64 i.valid i.low) (omega arith) p (among_children y own h64 i.valid i.low).0 in
+      let b : (own ≤ res_of y) × (res_of y ≤ 15) × (y < 2 ^ 60) × Digits (octs (res_of y - own) (y / 8 ^ (15 - res_of y))) =
+      subst (λ (o : ℕ). (o ≤ res_of y) × (res_of y ≤ 15) × (y < 2 ^ 60) × Digits (octs (res_of y - o) (y / 8 ^ (15 - res_of y)))) same_own
+      (subst (λ (x : ℕ). (res_of n ≤ res_of y) × (res_of y ≤ 15) × (x < 2 ^ 60) × Digits (octs (res_of y - res_of n) (x / 8 ^ (15 - res_of y)))) there a) in
       rw e b
 
-  pub follow : (target x : ℕ) (s : ℤ) → target ≡ resOf y → Advanced y z own target x s → Following y own x s
+  pub follow : (target x : ℕ) (s : ℤ) → target ≡ res_of y → Advanced y z own target x s → Following y own x s
   follow target x s e a =
-      let b : Advanced y (skipOf n y) (resOf n) (resOf y) x s =
-      subst (λ (k : ℤ). Advanced y k (resOf n) (resOf y) x s) i.skip
-      (subst (λ (o : ℕ). Advanced y z o (resOf y) x s) (sym same_own) (subst (λ (t : ℕ). Advanced y z own t x s) e a)) in
-      let c : Advanced (childAt n (resOf y) p) (skipOf n (childAt n (resOf y) p)) (resOf n) (resOf y) x s =
-      subst (λ (j : ℕ). Advanced j (skipOf n j) (resOf n) (resOf y) x s) (sym there) b in
+      let b : Advanced y (skip_of n y) (res_of n) (res_of y) x s =
+      subst (λ (k : ℤ). Advanced y k (res_of n) (res_of y) x s) i.skip
+      (subst (λ (o : ℕ). Advanced y z o (res_of y) x s) (sym same_own) (subst (λ (t : ℕ). Advanced y z own t x s) e a)) in
+      let c : Advanced (child_at n (res_of y) p) (skip_of n (child_at n (res_of y) p)) (res_of n) (res_of y) x s =
+      subst (λ (j : ℕ). Advanced j (skip_of n j) (res_of n) (res_of y) x s) (sym there) b in
       let h = i.more in
-      let m = moved n (resOf y) (owner_fits y own h64 i.valid i.low) (owner_valid y own h64 i.valid i.low) (owner_low y own h64 i.valid i.low) (omega arith) p x s (omega arith) c in
-      record { number = m.0 ∙ ap (childAt n (resOf y)) (sym (add-one p)); skip = m.1 ∙ ap (skipOf n) (sym m.0) }
+      let m = moved n (res_of y) (owner_fits y own h64 i.valid i.low) (owner_valid y own h64 i.valid i.low) (owner_low y own h64 i.valid i.low) (omega arith) p x s (omega arith) c in
+      record { number = m.0 ∙ ap (child_at n (res_of y)) (sym (add-one p)); skip = m.1 ∙ ap (skip_of n) (sym m.0) }
 
 -- the child at p and the one after it
-module _ (n t : ℕ) (h64 : n < 2 ^ 64) (v : Valid n) (lo : resOf n ≤ t) (hi : t ≤ 15) (p : ℕ) (h : suc p < count_of n t) where
+module _ (n t : ℕ) (h64 : n < 2 ^ 64) (v : Valid n) (lo : res_of n ≤ t) (hi : t ≤ 15) (p : ℕ) (h : suc p < count_of n t) where
   abbrev y : ℕ
-  y = childAt n t p
+  y = child_at n t p
 
-  owner : ancestorOf y (resOf n) ≡ n
+  owner : ancestor_of y (res_of n) ≡ n
   owner = ancestor_child n t h64 v lo hi p (omega arith)
 
-  fine : resOf y ≡ t
+  fine : res_of y ≡ t
   fine = child_res n t h64 v lo hi p (omega arith)
 
-  spot : position_of (ancestorOf y (resOf n)) y ≡ p
+  spot : position_of (ancestor_of y (res_of n)) y ≡ p
   spot = ap (λ (m : ℕ). position_of m y) owner ∙ position_child n t h64 v lo hi p (omega arith)
 
-  pub inner_child : Inner y (skipOf n y) (resOf n)
+  pub inner_child : Inner y (skip_of n y) (res_of n)
   inner_child =
       record {
         valid = child_valid n t h64 v lo hi p (omega arith);
         low = rw fine lo;
-        more = let e : count_of (ancestorOf y (resOf n)) (resOf y) ≡ count_of n t = ap (λ (m : ℕ). count_of m (resOf y)) owner ∙ ap (count_of n) fine in omega (arith, spot);
-        skip = ap (λ (m : ℕ). skipOf m y) (sym owner);
+        more = let e : count_of (ancestor_of y (res_of n)) (res_of y) ≡ count_of n t = ap (λ (m : ℕ). count_of m (res_of y)) owner ∙ ap (count_of n) fine in omega (arith, spot);
+        skip = ap (λ (m : ℕ). skip_of m y) (sym owner);
       }
 
-  pub following_child : (x : ℕ) (s : ℤ) → Following y (resOf n) x s → (x ≡ childAt n t (suc p)) × (s ≡ skipOf n (childAt n t (suc p)))
+  pub following_child : (x : ℕ) (s : ℤ) → Following y (res_of n) x s → (x ≡ child_at n t (suc p)) × (s ≡ skip_of n (child_at n t (suc p)))
   following_child x s f =
-      let e : x ≡ childAt n t (suc p) =
-      f.number ∙ ap (λ (m : ℕ). childAt m (resOf y) (position_of (ancestorOf y (resOf n)) y + 1)) owner
-      ∙ ap (λ (k : ℕ). childAt n k (position_of (ancestorOf y (resOf n)) y + 1)) fine
-      ∙ ap (λ (j : ℕ). childAt n t (j + 1)) spot ∙ ap (childAt n t) (add-one p) in
-      (e, f.skip ∙ ap (λ (m : ℕ). skipOf m x) owner ∙ ap (skipOf n) e)
+      let e : x ≡ child_at n t (suc p) =
+      f.number ∙ ap (λ (m : ℕ). child_at m (res_of y) (position_of (ancestor_of y (res_of n)) y + 1)) owner
+      ∙ ap (λ (k : ℕ). child_at n k (position_of (ancestor_of y (res_of n)) y + 1)) fine
+      ∙ ap (λ (j : ℕ). child_at n t (j + 1)) spot ∙ ap (child_at n t) (add-one p) in
+      (e, f.skip ∙ ap (λ (m : ℕ). skip_of m x) owner ∙ ap (skip_of n) e)
 
 -- a skip is -1 or at most the resolution of the number
-pub skip_fits : (n y : ℕ) → SFits w32 (skipOf n y)
-skip_fits n y = record { sfits = go (pentagon n) (resOf y) (lead_le (used y (resOf y))) (omega arith) }
+pub skip_fits : (n y : ℕ) → SFits w32 (skip_of n y)
+skip_fits n y = record { sfits = go (pentagon n) (res_of y) (lead_le (used y (res_of y))) (omega arith) }
   where
     go : (b : Bool) (k : ℕ) → lead (used y k) ≤ length (used y k) → k ≤ 15 → mag (cond b (pos (lead (used y k))) (negsuc 0)) < 2 ^ 31
     go true k l h = let e = length_used y k in omega arith

@@ -13,7 +13,7 @@ use lib.ListN.{length}
 use borrow.Author.Tests.{lt-ltb, le-ltb, eqb-true}
 use Rattle.index.specs.View.{octal}
 use Rattle.plane.specs.Strings.{Digits}
-use Rattle.children.proofs.Carry.{skipsAt, octs, carried, fallen}
+use Rattle.children.proofs.Carry.{skips_at, octs, carried, fallen}
 
 pub length_octs : (m x : ℕ) → length (octs m x) ≡ m
 unfolding octs
@@ -30,15 +30,15 @@ unfolding octal
 octal_step d ds = refl
 
 module _ (s : ℤ) (own d : ℕ) (ds : List ℕ) where
-  past : eqb d 0 && skipsAt s (own + suc (length ds)) ≡ true → (carried s own (d ∷ ds) ≡ 2 ∷ ds) × (fallen s own (d ∷ ds) ≡ pred_ℤ s)
+  past : eqb d 0 && skips_at s (own + suc (length ds)) ≡ true → (carried s own (d ∷ ds) ≡ 2 ∷ ds) × (fallen s own (d ∷ ds) ≡ pred_ℤ s)
   unfolding carried fallen
   past e = (rw e, rw e)
 
-  more : eqb d 0 && skipsAt s (own + suc (length ds)) ≡ false → d < 6 → (carried s own (d ∷ ds) ≡ suc d ∷ ds) × (fallen s own (d ∷ ds) ≡ s)
+  more : eqb d 0 && skips_at s (own + suc (length ds)) ≡ false → d < 6 → (carried s own (d ∷ ds) ≡ suc d ∷ ds) × (fallen s own (d ∷ ds) ≡ s)
   unfolding carried fallen
   more e h = (rw (e, lt-ltb d 6 h), rw (e, lt-ltb d 6 h))
 
-  over : eqb d 0 && skipsAt s (own + suc (length ds)) ≡ false → 6 ≤ d → (carried s own (d ∷ ds) ≡ 0 ∷ carried s own ds) × (fallen s own (d ∷ ds) ≡ fallen s own ds)
+  over : eqb d 0 && skips_at s (own + suc (length ds)) ≡ false → 6 ≤ d → (carried s own (d ∷ ds) ≡ 0 ∷ carried s own ds) × (fallen s own (d ∷ ds) ≡ fallen s own ds)
   unfolding carried fallen
   over e h = (rw (e, le-ltb d 6 h), rw (e, le-ltb d 6 h))
 
@@ -74,12 +74,12 @@ module _ (s : ℤ) (own a u m k l : ℕ) (hu : 0 < u) (hm : 0 < m) (w : Digits (
   closed : a + u * octal (carried s own (d ∷ tl)) + k ≡ l + u * octal (d ∷ tl)
   closed = subst (λ (x : List ℕ). a + u * octal (carried s own x) + k ≡ l + u * octal x) parts e
 
-  test : (b : Bool) → eqb ((a + u) / u % 8) 1 && skipsAt s (own + m) ≡ b → eqb d 0 && skipsAt s (own + suc (length tl)) ≡ b
+  test : (b : Bool) → eqb ((a + u) / u % 8) 1 && skips_at s (own + m) ≡ b → eqb d 0 && skips_at s (own + suc (length tl)) ≡ b
   test b h = rw (long, ← (eqb-suc-suc d 0), ← next) h
 
-  pub hop : eqb ((a + u) / u % 8) 1 && skipsAt s (own + m) ≡ true → (a + u + u + k ≡ l) × (fallen s own (octs m (a / u)) ≡ pred_ℤ s)
+  pub hop : eqb ((a + u) / u % 8) 1 && skips_at s (own + m) ≡ true → (a + u + u + k ≡ l) × (fallen s own (octs m (a / u)) ≡ pred_ℤ s)
   hop h =
-      let z : d ≡ 0 = zero_of d (skipsAt s (own + suc (length tl))) (test true h) in
+      let z : d ≡ 0 = zero_of d (skips_at s (own + suc (length tl))) (test true h) in
       let p = past s own d tl (test true h) in
       let c = closed in
       (sum (octal tl) d z (rw (p.0, octal_step 2 tl, octal_step d tl) at c), ap (fallen s own) parts ∙ p.1)
@@ -94,7 +94,7 @@ module _ (s : ℤ) (own a u m k l : ℕ) (hu : 0 < u) (hm : 0 < m) (w : Digits (
       sum : (t d : ℕ) → d ≡ 0 → a + u * (t * 8 + 2) + k ≡ l + u * (t * 8 + d) → a + u + u + k ≡ l
       sum t d z h = omega (arith, rw z at h)
 
-  module _ (h : eqb ((a + u) / u % 8) 1 && skipsAt s (own + m) ≡ false) where
+  module _ (h : eqb ((a + u) / u % 8) 1 && skips_at s (own + m) ≡ false) where
     pub hit : (a + u) / u % 8 < 7 → (a + u + k ≡ l) × (fallen s own (octs m (a / u)) ≡ s)
     hit g =
         let p = more s own d tl (test false h) (omega (arith, next)) in

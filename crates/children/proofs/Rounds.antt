@@ -12,7 +12,7 @@ use Rattle.index.specs.Layout.{digit}
 use Rattle.index.specs.View.{octal}
 use Rattle.plane.specs.Strings.{Digits}
 use Rattle.index.proofs.Runs.{place, eights_pos}
-use Rattle.children.proofs.Carry.{skipsAt, octs, carried, fallen, Advanced}
+use Rattle.children.proofs.Carry.{skips_at, octs, carried, fallen, Advanced}
 use Rattle.children.proofs.Odometer as odo
 
 pub record Kept (x : ℕ) (z : ℤ) (own target a r : ℕ) : Type 0 where
@@ -72,17 +72,17 @@ module _ (x : ℕ) (z : ℤ) (own target a r : ℕ) (k : Kept x z own target a r
     skip' : (s : ℤ) → fallen z own (octs (r - own) (a / one)) ≡ s → fallen z own (octs (r - own) (a / 8 ^ (15 - r))) ≡ s
     skip' s e = rw eu at e
 
-    module _ (d : ℕ) (t : Bool) (ed : d ≡ digit (a + one) r) (et : t ≡ (eqb d 1 && skipsAt z r)) where
+    module _ (d : ℕ) (t : Bool) (ed : d ≡ digit (a + one) r) (et : t ≡ (eqb d 1 && skips_at z r)) where
       read : d ≡ (a + one) / one % 8
       read = ed ∙ rw (place (15 - r), ← eu)
 
-      test : (b : Bool) → t ≡ b → eqb ((a + one) / one % 8) 1 && skipsAt z (own + (r - own)) ≡ b
+      test : (b : Bool) → t ≡ b → eqb ((a + one) / one % 8) 1 && skips_at z (own + (r - own)) ≡ b
       test b e = let q : own + (r - own) ≡ r = omega arith in rw (q, ← read, ← et) e
 
       pub level : t ≡ true → nat_abs z ≤ 15
       level e = go z (eqb d 1) (sym et ∙ e)
         where
-          go : (z : ℤ) (b : Bool) → b && skipsAt z r ≡ true → nat_abs z ≤ 15
+          go : (z : ℤ) (b : Bool) → b && skips_at z r ≡ true → nat_abs z ≤ 15
           go (pos i) true h = let q = eqb-true i r h in let w = k.high in omega arith
           go (negsuc i) true h = absurd (false≢true h)
           go z false h = absurd (false≢true h)

@@ -1,9 +1,9 @@
 // Port of index/iterator/children.rs: the cursor goes from child to child on the packed number.
 ghost use Rattle.std.specs.Prelude.{◌≡◌, cond, ◌&&◌, ◌+◌, ◌-◌, ◌*◌, ◌≤◌, ◌<◌, eqb, pos, negsuc, nat_abs};
 ghost use Rattle.std.proofs.Math.IntN.{pred_ℤ};
-ghost use Rattle.index.specs.Layout.{Valid, resOf};
-ghost use Rattle.children.specs.Skips.{sameZ, Inner, Following};
-ghost use Rattle.children.specs.Cursors.{cursorAt, next_of};
+ghost use Rattle.index.specs.Layout.{Valid, res_of};
+ghost use Rattle.children.specs.Skips.{same_whole, Inner, Following};
+ghost use Rattle.children.specs.Cursors.{cursor_after, next_of};
 
 use crate::legal::is_legal;
 use descent::{children_count, get_starting_state};
@@ -21,7 +21,7 @@ struct Scratch {
 
 fn is_skipped(skip: i32, r: u64, direction: u64) -> bool
     requires { r ≤ 15 }
-    ensures { result ≡ (eqb direction 1 && sameZ skip (pos r)) }
+    ensures { result ≡ (eqb direction 1 && same_whole skip (pos r)) }
 {
     if direction == 1 {
         return skip == (r as i32);
@@ -38,7 +38,7 @@ fn fall(skip: i32) -> i32
 
 // From a child of a cell of resolution `own` to the next.
 fn advance(number: u64, skip: i32, own: u64, target: u64) -> Scratch
-    requires { Inner number skip own × (target ≡ resOf number) }
+    requires { Inner number skip own × (target ≡ res_of number) }
     ensures { Following number own result.number result.skip }
 {
     let mut bits = number;
@@ -91,8 +91,8 @@ pub enum Given {
 }
 
 pub fn fresh(c: Cell, t: Resolution) -> Cursor
-    requires { Valid c.0 × (resOf c.0 ≤ t.0) × (t.0 ≤ 15) }
-    ensures { result ≡ cursorAt c.0 t.0 0 }
+    requires { Valid c.0 × (res_of c.0 ≤ t.0) × (t.0 ≤ 15) }
+    ensures { result ≡ cursor_after c.0 t.0 0 }
 {
     let own = resolution_number(resolution_of(c));
     let target = resolution_number(t);

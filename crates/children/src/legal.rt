@@ -1,9 +1,9 @@
 // Which cursors calls of this library could have made.
 ghost use Rattle.std.specs.Prelude.{◌≡◌, cond, ◌+◌, ◌^◌, ◌≤◌, ◌<◌, eqb};
-ghost use Rattle.index.specs.Layout.{Valid, resOf};
+ghost use Rattle.index.specs.Layout.{Valid, res_of};
 ghost use Rattle.index.specs.View.{used};
-ghost use Rattle.index.specs.Ancestor.{ancestorOf};
-ghost use Rattle.children.specs.Skips.{lead, sameZ};
+ghost use Rattle.index.specs.Ancestor.{ancestor_of};
+ghost use Rattle.children.specs.Skips.{lead, same_whole};
 ghost use Rattle.children.specs.Cursors.{placed, legal};
 
 use crate::Cursor;
@@ -26,7 +26,7 @@ fn leading(n: u64, k: u64) -> u64
 }
 
 fn is_same(a: i32, b: i32) -> bool
-    ensures { result ≡ sameZ a b }
+    ensures { result ≡ same_whole a b }
 {
     a == b
 }
@@ -46,8 +46,8 @@ fn is_counted(p: u64, left: u64, total: u64) -> bool
 }
 
 fn is_placed(y: Cell, own: u64, left: u64, skip: i32) -> bool
-    requires { Valid y.0 × (own ≤ resOf y.0) }
-    ensures { result ≡ placed (ancestorOf y.0 own) y.0 left skip }
+    requires { Valid y.0 × (own ≤ res_of y.0) }
+    ensures { result ≡ placed (ancestor_of y.0 own) y.0 left skip }
 {
     let number = number_of(y);
     let target = resolution_number(resolution_of(y));

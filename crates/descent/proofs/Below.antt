@@ -9,7 +9,7 @@ use native.Mathlib.Omega.{arith}
 use lib.Dec.{eqb}
 use lib.ListN.{length, length-append}
 use borrow.Author.Tests.{ne_eqb}
-use Rattle.index.specs.Layout.{isPentagonal}
+use Rattle.index.specs.Layout.{is_pentagonal}
 use Rattle.index.specs.View.{octal, first, Fit}
 use Rattle.plane.specs.Strings.{Digits}
 use Rattle.descent.specs.Descendants.{count}
@@ -49,7 +49,7 @@ first_far (suc m) (suc p) l h =
     (λ (g : 0 < suc (suc p) / 7). let f = first_far m (suc (suc p) / 7) g (up true m (suc p) h) in rw (ne_eqb (first (below true m (suc (suc p) / 7))) 0 (omega arith)) f)
     (eq-zero-or-pos (suc (suc p) / 7))
 
-pub fit_child : (t : Bool) (b m p : ℕ) (ys : List ℕ) → Fit b ys → t ≡ (isPentagonal b && eqb (first ys) 0) → m + length ys ≤ 15 → p < count t m → Fit b (below t m p ++ ys)
+pub fit_child : (t : Bool) (b m p : ℕ) (ys : List ℕ) → Fit b ys → t ≡ (is_pentagonal b && eqb (first ys) 0) → m + length ys ≤ 15 → p < count t m → Fit b (below t m p ++ ys)
 fit_child t b m p ys o e l h =
     record {
       base = o.base;
@@ -58,7 +58,7 @@ fit_child t b m p ys o e l h =
       kept = λ q. ⊎_elim (pent q) (other q) (eq-zero-or-pos (first ys));
     }
   where
-    pent : isPentagonal b ≡ true → first ys ≡ 0 → first (below t m p ++ ys) ≡ 1 → ⊥
+    pent : is_pentagonal b ≡ true → first ys ≡ 0 → first (below t m p ++ ys) ≡ 1 → ⊥
     pent q z f =
         let k : t ≡ true = e ∙ rw (q, z) in
         let g : first (below t m p) ≡ 1 = rw (first_append, z) at f in
@@ -66,5 +66,5 @@ fit_child t b m p ys o e l h =
         let h' : p < count true m = rw k at h in
         ⊎_elim (λ (a : p ≡ 0). let w : first (below true m 0) ≡ 1 = rw a at g' in omega (arith, first_zero m)) (λ a. omega (arith, first_far m p a h')) (eq-zero-or-pos p)
 
-    other : isPentagonal b ≡ true → 0 < first ys → first (below t m p ++ ys) ≡ 1 → ⊥
+    other : is_pentagonal b ≡ true → 0 < first ys → first (below t m p ++ ys) ≡ 1 → ⊥
     other q z f = o.kept q (rw (first_append, ne_eqb (first ys) 0 (omega arith)) at f)

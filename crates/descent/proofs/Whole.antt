@@ -8,33 +8,33 @@ use native.Mathlib.Decide.{dec_le}
 use native.Mathlib.Omega.{arith}
 use lib.ListN.{length, get_or, get_or-append}
 use lib.Seq.{get_or_at, ext_get_or}
-use Rattle.index.specs.Layout.{resOf, Valid}
+use Rattle.index.specs.Layout.{res_of, Valid}
 use Rattle.index.proofs.View.{packed}
 use Rattle.descent.specs.Descendants.{Descendant, count_of, Listing}
-use Rattle.descent.specs.Positions.{childAt, position_of, tab, listing}
+use Rattle.descent.specs.Positions.{child_at, position_of, tab, listing}
 use Rattle.descent.proofs.Strings.{digit_used}
 use Rattle.descent.proofs.Tab.{length_tab}
 use Rattle.descent.proofs.Exact.{sound, later, complete}
 
-pub getD_tab : (f : ℕ → ℕ) (k p : ℕ) → p < k → get_or (tab f k) p 0 ≡ f p
+pub get_or_tab : (f : ℕ → ℕ) (k p : ℕ) → p < k → get_or (tab f k) p 0 ≡ f p
 unfolding tab
-getD_tab f zero p h = absurd (not-suc-le-zero h)
-getD_tab f (suc k) p h =
+get_or_tab f zero p h = absurd (not-suc-le-zero h)
+get_or_tab f (suc k) p h =
     ⊎_elim
     (λ (q : p ≡ k). get_or_at (tab f k) (f k) [] 0 p (length_tab f k ∙ sym q) ∙ ap f (sym q))
-    (λ l. get_or-append (tab f k) (f k ∷ []) 0 p (subst (λ (z : ℕ). p < z) (sym (length_tab f k)) l) ∙ getD_tab f k p l)
+    (λ l. get_or-append (tab f k) (f k ∷ []) 0 p (subst (λ (z : ℕ). p < z) (sym (length_tab f k)) l) ∙ get_or_tab f k p l)
     (eq-or-lt_of_le (le_of_suc-le-suc h))
 
 pub length_listing : (n t : ℕ) → length (listing n t) ≡ count_of n t
 unfolding listing
-length_listing n t = length_tab (childAt n t) (count_of n t)
+length_listing n t = length_tab (child_at n t) (count_of n t)
 
 -- child at p is element p of the listing
-pub listing_at : (n t p : ℕ) → p < count_of n t → get_or (listing n t) p 0 ≡ childAt n t p
+pub listing_at : (n t p : ℕ) → p < count_of n t → get_or (listing n t) p 0 ≡ child_at n t p
 unfolding listing
-listing_at n t p h = getD_tab (childAt n t) (count_of n t) p h
+listing_at n t p h = get_or_tab (child_at n t) (count_of n t) p h
 
-pub whole : (n t : ℕ) → n < 2 ^ 64 → Valid n → resOf n ≤ t → t ≤ 15 → Listing n t (listing n t)
+pub whole : (n t : ℕ) → n < 2 ^ 64 → Valid n → res_of n ≤ t → t ≤ 15 → Listing n t (listing n t)
 whole n t h v lo hi =
     let e = length_listing n t in
     record {
@@ -104,20 +104,20 @@ only_listing n t k l a b = ext_get_or 0 k l long same
         level r p hr hp e = elim (dec_le r p) [ yes w ↦ ⊎_elim (λ (s : r ≡ p). s) (λ g. absurd (omega (arith, a.ascending r p g hp))) (eq-or-lt_of_le w) | no w ↦ absurd (w (absurd (omega (arith, a.ascending p r (omega arith) hr)))) ]
 
 -- a listing is as long as the count
-pub count_listing : (n t : ℕ) (l : List ℕ) → n < 2 ^ 64 → Valid n → resOf n ≤ t → t ≤ 15 → Listing n t l → length l ≡ count_of n t
+pub count_listing : (n t : ℕ) (l : List ℕ) → n < 2 ^ 64 → Valid n → res_of n ≤ t → t ≤ 15 → Listing n t l → length l ≡ count_of n t
 count_listing n t l h v lo hi a = ap length (only_listing n t l (listing n t) a (whole n t h v lo hi)) ∙ length_listing n t
 
 -- at n = 0 it is the cell
-pub listing_self : (n : ℕ) → n < 2 ^ 64 → Valid n → listing n (resOf n) ≡ n ∷ []
-listing_self n h v = only_listing n (resOf n) (listing n (resOf n)) (n ∷ []) (whole n (resOf n) h v (omega arith) (omega arith)) self
+pub listing_self : (n : ℕ) → n < 2 ^ 64 → Valid n → listing n (res_of n) ≡ n ∷ []
+listing_self n h v = only_listing n (res_of n) (listing n (res_of n)) (n ∷ []) (whole n (res_of n) h v (omega arith) (omega arith)) self
   where
-    self : Listing n (resOf n) (n ∷ [])
+    self : Listing n (res_of n) (n ∷ [])
     self =
         record {
           ascending = λ p q g u. absurd (omega arith);
-          only = λ p u. let z : p ≡ 0 = omega arith in subst (λ (i : ℕ). Descendant n (resOf n) (get_or (n ∷ []) i 0)) (sym z) (record { fits = h; fine = refl; base = refl; lead = λ r a b. refl; valid = v });
+          only = λ p u. let z : p ≡ 0 = omega arith in subst (λ (i : ℕ). Descendant n (res_of n) (get_or (n ∷ []) i 0)) (sym z) (record { fits = h; fine = refl; base = refl; lead = λ r a b. refl; valid = v });
           every = λ y d. (0, omega arith, lonely y d);
         }
       where
-        lonely : (y : ℕ) → Descendant n (resOf n) y → n ≡ y
-        lonely y d = sym (packed n h v) ∙ rw (← d.base, ← (digit_used y n (resOf n) d.lead), ← d.fine) (packed y d.fits d.valid)
+        lonely : (y : ℕ) → Descendant n (res_of n) y → n ≡ y
+        lonely y d = sym (packed n h v) ∙ rw (← d.base, ← (digit_used y n (res_of n) d.lead), ← d.fine) (packed y d.fits d.valid)

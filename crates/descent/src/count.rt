@@ -1,6 +1,6 @@
 // How many descendants a cell has.
 ghost use Rattle.std.specs.Prelude.{◌≡◌, ◌^◌, ◌≤◌};
-ghost use Rattle.index.specs.Layout.{Valid, resOf};
+ghost use Rattle.index.specs.Layout.{Valid, res_of};
 ghost use Rattle.descent.specs.Descendants.{count, count_of};
 
 use index::inside::{is_pentagon, resolution_number, resolution_of};
@@ -42,7 +42,7 @@ pub fn count_down(pentagon: bool, m: u64) -> u64
 }
 
 pub fn children_count(c: Cell, t: Resolution) -> u64
-    requires { Valid c.0 × (resOf c.0 ≤ t.0) × (t.0 ≤ 15) }
+    requires { Valid c.0 × (res_of c.0 ≤ t.0) × (t.0 ≤ 15) }
     ensures { result ≡ count_of c.0 t.0 }
 {
     let own = resolution_number(resolution_of(c));

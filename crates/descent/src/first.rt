@@ -1,15 +1,15 @@
 // The first descendant (index/iterator/children.rs).
 ghost use Rattle.std.specs.Prelude.{◌≡◌, ◌≤◌};
-ghost use Rattle.index.specs.Layout.{Valid, resOf};
-ghost use Rattle.descent.specs.Positions.{childAt};
+ghost use Rattle.index.specs.Layout.{Valid, res_of};
+ghost use Rattle.descent.specs.Positions.{child_at};
 
 use index::inside::{ONE_RESOLUTION, number_of, place, resolution_number, resolution_of};
 use index::{Cell, Resolution};
 
 // The first child: 0 in the places between the resolutions.
 pub fn get_starting_state(c: Cell, t: Resolution) -> u64
-    requires { Valid c.0 × (resOf c.0 ≤ t.0) × (t.0 ≤ 15) }
-    ensures { result ≡ childAt c.0 t.0 0 }
+    requires { Valid c.0 × (res_of c.0 ≤ t.0) × (t.0 ≤ 15) }
+    ensures { result ≡ child_at c.0 t.0 0 }
 {
     let n = number_of(c);
     let own = resolution_of(c);

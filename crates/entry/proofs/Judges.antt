@@ -16,7 +16,7 @@ use Rattle.plane.specs.Ranges.{point_in_range, Within}
 use Rattle.plane.proofs.Bounds.{in_range_within}
 use Rattle.plane.specs.declared.ijk.IJK.{IJK}
 use Rattle.plane.specs.declared.direction.Direction.{Direction}
-use Rattle.entry.specs.Rules.{wayRule, rangeRule}
+use Rattle.entry.specs.Rules.{way_rule, range_rule}
 use Rattle.entry.specs.contracts.judge.Heading as heading-type
 use Rattle.entry.specs.contracts.judge.Place as place-type
 use Rattle.entry.specs.declared.judge.Heading.{Heading}
@@ -72,10 +72,10 @@ module _ (t : IJK) where
 
 -- an entry whose rules are those of one point
 module _ {A : Type 0} (p : IJK) where
-  pub refuse_point : (rules : List Rule) (x : ℕ) (a : A) → not (point_in_range p) ≡ true → x ≡ 14 → refused x ≡ judged (rangeRule p ∷ rules) a
+  pub refuse_point : (rules : List Rule) (x : ℕ) (a : A) → not (point_in_range p) ≡ true → x ≡ 14 → refused x ≡ judged (range_rule p ∷ rules) a
   refuse_point rules x a h e = ap refused e ∙ sym (hit _ _ rules a h)
 
-  pub answer_point : (a b : A) → not (point_in_range p) ≡ false → a ≡ b → answered a ≡ judged (rangeRule p ∷ []) b
+  pub answer_point : (a b : A) → not (point_in_range p) ≡ false → a ≡ b → answered a ≡ judged (range_rule p ∷ []) b
   answer_point a b h e = ap answered e ∙ sym (past _ _ [] b h ∙ none_answered b)
 
 -- a size that a larger one allows
@@ -87,5 +87,5 @@ wider m p q e w h =
     subst (λ (x : IJK). Within m x) (sym e) (record { i = omega arith; j = omega arith; k = omega arith })
 
 -- an entry whose rules begin with that of a direction
-pub refuse_way : {A : Type 0} (d : ℕ) (rules : List Rule) (x : ℕ) (a : A) → ltb 6 d ≡ true → x ≡ 13 → refused x ≡ judged (wayRule d ∷ rules) a
+pub refuse_way : {A : Type 0} (d : ℕ) (rules : List Rule) (x : ℕ) (a : A) → ltb 6 d ≡ true → x ≡ 13 → refused x ≡ judged (way_rule d ∷ rules) a
 refuse_way d rules x a h e = ap refused e ∙ sym (hit _ _ rules a h)

@@ -17,47 +17,47 @@ use Rattle.entry.specs.declared.answers.Walked.{Walked}
 use Rattle.entry.specs.declared.answers.Stepped.{Stepped}
 
 -- the check has no value
-abbrev pub toldChecked : Checked → Outcome (Unit {0})
-toldChecked Checked.Valid = answered tt
-toldChecked (Checked.Refused x) = refused x.0
+abbrev pub checked_told : Checked → Outcome (Unit {0})
+checked_told Checked.Valid = answered tt
+checked_told (Checked.Refused x) = refused x.0
 
-abbrev pub toldNumber : Number → Outcome ℕ
-toldNumber (Number.Is n) = answered n
-toldNumber (Number.Refused x) = refused x.0
+abbrev pub number_told : Number → Outcome ℕ
+number_told (Number.Is n) = answered n
+number_told (Number.Refused x) = refused x.0
 
 -- the number, or 0 where there is none
 abbrev pub value_of : Outcome ℕ → ℕ
 value_of (answered n) = n
 value_of (refused k) = 0
 
-abbrev pub toldTruth : Truth → Outcome Bool
-toldTruth (Truth.Is b) = answered b
-toldTruth (Truth.Refused x) = refused x.0
+abbrev pub truth_told : Truth → Outcome Bool
+truth_told (Truth.Is b) = answered b
+truth_told (Truth.Refused x) = refused x.0
 
-abbrev pub toldPoint : Point → Outcome IJK
-toldPoint (Point.At p) = answered p
-toldPoint (Point.Refused x) = refused x.0
+abbrev pub point_told : Point → Outcome IJK
+point_told (Point.At p) = answered p
+point_told (Point.Refused x) = refused x.0
 
-abbrev pub toldPair : Pair → Outcome IJ
-toldPair (Pair.At p) = answered p
-toldPair (Pair.Refused x) = refused x.0
+abbrev pub pair_told : Pair → Outcome IJ
+pair_told (Pair.At p) = answered p
+pair_told (Pair.Refused x) = refused x.0
 
-abbrev pub toldStarted : Started → Outcome Cursor
-toldStarted (Started.At c) = answered c
-toldStarted (Started.Refused x) = refused x.0
+abbrev pub started_told : Started → Outcome Cursor
+started_told (Started.At c) = answered c
+started_told (Started.Refused x) = refused x.0
 
 -- a number with the new digits, and the carry
-abbrev pub toldWalked : Walked → Outcome (ℕ × ℕ)
-toldWalked (Walked.To n c) = answered (n, c)
-toldWalked (Walked.Refused x) = refused x.0
+abbrev pub walked_told : Walked → Outcome (ℕ × ℕ)
+walked_told (Walked.To n c) = answered (n, c)
+walked_told (Walked.Refused x) = refused x.0
 
-abbrev pub toldStepped : Stepped → Outcome Answer
-toldStepped (Stepped.Inside n t) = answered (inside n t)
-toldStepped (Stepped.Leaves d) = answered (leaves d)
-toldStepped (Stepped.Refused x) = refused x.0
+abbrev pub stepped_told : Stepped → Outcome Answer
+stepped_told (Stepped.Inside n t) = answered (inside n t)
+stepped_told (Stepped.Leaves d) = answered (leaves d)
+stepped_told (Stepped.Refused x) = refused x.0
 
 -- a cursor is refused by 11 alone; it is handed back in each case
-abbrev pub toldGiven : Given → Outcome (Option ℕ)
-toldGiven (Given.Child y c) = answered (some y)
-toldGiven (Given.Done c) = answered none
-toldGiven (Given.Refused c) = refused 11
+abbrev pub given_told : Given → Outcome (Option ℕ)
+given_told (Given.Child y c) = answered (some y)
+given_told (Given.Done c) = answered none
+given_told (Given.Refused c) = refused 11

@@ -1,7 +1,7 @@
 // What entries answer: a value, or the refusal.
 ghost use Rattle.std.specs.Prelude.{◌≡◌};
 ghost use Rattle.index.specs.Refusals.{number_of};
-ghost use Rattle.entry.specs.Answers.{toldChecked, toldNumber, value_of, toldTruth, toldPoint, toldPair, toldStarted, toldWalked, toldStepped};
+ghost use Rattle.entry.specs.Answers.{checked_told, number_told, value_of, truth_told, point_told, pair_told, started_told, walked_told, stepped_told};
 
 use children::Cursor;
 use index::Refusal;
@@ -65,7 +65,7 @@ pub enum Stepped {
 // The refusal's number of each, or 0.
 impl Checked {
     pub fn refusal(self) -> u16
-        ensures { result ≡ number_of (toldChecked self) }
+        ensures { result ≡ number_of (checked_told self) }
     {
         match self {
             Checked::Valid => 0,
@@ -76,7 +76,7 @@ impl Checked {
 
 impl Number {
     pub fn refusal(self) -> u16
-        ensures { result ≡ number_of (toldNumber self) }
+        ensures { result ≡ number_of (number_told self) }
     {
         match self {
             Number::Is(_) => 0,
@@ -86,7 +86,7 @@ impl Number {
 
     // The number, or 0 where it is refused.
     pub fn value(self) -> u64
-        ensures { result ≡ value_of (toldNumber self) }
+        ensures { result ≡ value_of (number_told self) }
     {
         match self {
             Number::Is(n) => n,
@@ -97,7 +97,7 @@ impl Number {
 
 impl Truth {
     pub fn refusal(self) -> u16
-        ensures { result ≡ number_of (toldTruth self) }
+        ensures { result ≡ number_of (truth_told self) }
     {
         match self {
             Truth::Is(_) => 0,
@@ -108,7 +108,7 @@ impl Truth {
 
 impl Point {
     pub fn refusal(self) -> u16
-        ensures { result ≡ number_of (toldPoint self) }
+        ensures { result ≡ number_of (point_told self) }
     {
         match self {
             Point::At(_) => 0,
@@ -119,7 +119,7 @@ impl Point {
 
 impl Pair {
     pub fn refusal(self) -> u16
-        ensures { result ≡ number_of (toldPair self) }
+        ensures { result ≡ number_of (pair_told self) }
     {
         match self {
             Pair::At(_) => 0,
@@ -130,7 +130,7 @@ impl Pair {
 
 impl Started {
     pub fn refusal(self) -> u16
-        ensures { result ≡ number_of (toldStarted self) }
+        ensures { result ≡ number_of (started_told self) }
     {
         match self {
             Started::At(_) => 0,
@@ -141,7 +141,7 @@ impl Started {
 
 impl Walked {
     pub fn refusal(self) -> u16
-        ensures { result ≡ number_of (toldWalked self) }
+        ensures { result ≡ number_of (walked_told self) }
     {
         match self {
             Walked::To(_, _) => 0,
@@ -152,7 +152,7 @@ impl Walked {
 
 impl Stepped {
     pub fn refusal(self) -> u16
-        ensures { result ≡ number_of (toldStepped self) }
+        ensures { result ≡ number_of (stepped_told self) }
     {
         match self {
             Stepped::Inside(_, _) => 0,

@@ -14,13 +14,13 @@ use borrow.Author.Tests.{eqb-true, eqb-false}
 use Rattle.plane.specs.Directions.{turns}
 use Rattle.plane.specs.Strings.{Digits, odd}
 use Rattle.plane.proofs.Every.{at}
-use Rattle.index.specs.Layout.{digit, base_of, resOf, isPentagonal, first_of, Valid}
+use Rattle.index.specs.Layout.{digit, base_of, res_of, is_pentagonal, first_of, Valid}
 use Rattle.index.specs.View.{used, pack, first, Fit}
 use Rattle.index.specs.Refusals.{Outcome, answered, refused}
 use Rattle.turns.proofs.Turning.{length_turned}
 use Rattle.index.proofs.View.{fit, first_used, pack_valid, pack_base, pack_res}
-use Rattle.walks.specs.Tables.{newDigit, adjustment}
-use Rattle.walks.specs.Walks.{walked, leftOver, carryOf}
+use Rattle.walks.specs.Tables.{new_digit, adjustment}
+use Rattle.walks.specs.Walks.{walked, left_over, carry_of}
 use Rattle.grid.specs.Steps.{Answer, inside, leaves, step_of}
 use Rattle.walks.proofs.Tables.{from_zero}
 use Rattle.walks.proofs.Walks.{walked_zero}
@@ -43,45 +43,45 @@ never x m t p = (λ k q. absurd (let z : ◌≡◌ {A = ℕ} 0 1 = cc in omega a
 
 -- the five ways through the step
 pub data Case (n way : ℕ) : Type 0 where
-  left : (carryOf n way ≡ 0 → ⊥) → step_of n way ≡ answered (leaves (carryOf n way)) → Case n way
-  stayed : carryOf n way ≡ 0 → (isPentagonal (base_of n) ≡ true → first (news n way) ≡ 1 → ⊥) → step_of n way ≡ answered (inside (pack (base_of n) (news n way)) 0) → Case n way
-  deleted : carryOf n way ≡ 0 → isPentagonal (base_of n) ≡ true → first (news n way) ≡ 1 → first (olds n) ≡ 0 → step_of n way ≡ refused 17 → Case n way
-  ccw : carryOf n way ≡ 0 → isPentagonal (base_of n) ≡ true → first (news n way) ≡ 1 → first (olds n) ≡ 3 → step_of n way ≡ answered (inside (pack (base_of n) (map (turns true 1) (news n way))) 1) → Case n way
-  cw : carryOf n way ≡ 0 → isPentagonal (base_of n) ≡ true → first (news n way) ≡ 1 → first (olds n) ≡ 5 → step_of n way ≡ answered (inside (pack (base_of n) (map (turns false 1) (news n way))) 5) → Case n way
+  left : (carry_of n way ≡ 0 → ⊥) → step_of n way ≡ answered (leaves (carry_of n way)) → Case n way
+  stayed : carry_of n way ≡ 0 → (is_pentagonal (base_of n) ≡ true → first (news n way) ≡ 1 → ⊥) → step_of n way ≡ answered (inside (pack (base_of n) (news n way)) 0) → Case n way
+  deleted : carry_of n way ≡ 0 → is_pentagonal (base_of n) ≡ true → first (news n way) ≡ 1 → first (olds n) ≡ 0 → step_of n way ≡ refused 17 → Case n way
+  ccw : carry_of n way ≡ 0 → is_pentagonal (base_of n) ≡ true → first (news n way) ≡ 1 → first (olds n) ≡ 3 → step_of n way ≡ answered (inside (pack (base_of n) (map (turns true 1) (news n way))) 1) → Case n way
+  cw : carry_of n way ≡ 0 → is_pentagonal (base_of n) ≡ true → first (news n way) ≡ 1 → first (olds n) ≡ 5 → step_of n way ≡ answered (inside (pack (base_of n) (map (turns false 1) (news n way))) 5) → Case n way
 
 module _ (n way : ℕ) (v : Valid n) (hw : way < 7) where
   -- no other origin reaches the deleted digits
-  pub no_other : carryOf n way ≡ 0 → isPentagonal (base_of n) ≡ true → first (news n way) ≡ 1 → (first (olds n) ≡ 0) ⊎ ((first (olds n) ≡ 3) ⊎ (first (olds n) ≡ 5))
-  unfolding carryOf
+  pub no_other : carry_of n way ≡ 0 → is_pentagonal (base_of n) ≡ true → first (news n way) ≡ 1 → (first (olds n) ≡ 0) ⊎ ((first (olds n) ≡ 3) ⊎ (first (olds n) ≡ 5))
+  unfolding carry_of
   no_other z p g = let f = fit n v in origins (olds n) way f.digits hw z g (f.kept p)
 
-  reached : carryOf n way ≡ 0 → isPentagonal (base_of n) ≡ true → first (news n way) ≡ 1 → (first (olds n) ≡ 0) ⊎ ((first (olds n) ≡ 3) ⊎ (first (olds n) ≡ 5)) → Case n way
+  reached : carry_of n way ≡ 0 → is_pentagonal (base_of n) ≡ true → first (news n way) ≡ 1 → (first (olds n) ≡ 0) ⊎ ((first (olds n) ≡ 3) ⊎ (first (olds n) ≡ 5)) → Case n way
   reached z p g (inl e) = deleted z p g e (refusing n way z p g e)
   reached z p g (inr (inl e)) = ccw z p g e (turning_ccw n way z p g e)
   reached z p g (inr (inr e)) = cw z p g e (turning_cw n way z p g (λ q. omega arith) (λ q. omega arith))
 
-  first_one : carryOf n way ≡ 0 → isPentagonal (base_of n) ≡ true → Dec (first (news n way) ≡ 1) → Case n way
+  first_one : carry_of n way ≡ 0 → is_pentagonal (base_of n) ≡ true → Dec (first (news n way) ≡ 1) → Case n way
   first_one z p (yes g) = reached z p g (no_other z p g)
   first_one z p (no f) = stayed z (λ q. f) (staying n way z (λ q. f))
 
-  pentagon_base : carryOf n way ≡ 0 → (b : Bool) → isPentagonal (base_of n) ≡ b → Case n way
+  pentagon_base : carry_of n way ≡ 0 → (b : Bool) → is_pentagonal (base_of n) ≡ b → Case n way
   pentagon_base z true p = first_one z p (decide (first (news n way)) 1)
-  pentagon_base z false p = let f : isPentagonal (base_of n) ≡ true → first (news n way) ≡ 1 → ⊥ = λ q g. true≢false (sym q ∙ p) in stayed z f (staying n way z f)
+  pentagon_base z false p = let f : is_pentagonal (base_of n) ≡ true → first (news n way) ≡ 1 → ⊥ = λ q g. true≢false (sym q ∙ p) in stayed z f (staying n way z f)
 
-  carry_zero : Dec (carryOf n way ≡ 0) → Case n way
-  carry_zero (yes z) = pentagon_base z (isPentagonal (base_of n)) refl
+  carry_zero : Dec (carry_of n way ≡ 0) → Case n way
+  carry_zero (yes z) = pentagon_base z (is_pentagonal (base_of n)) refl
   carry_zero (no f) = left f (leaving n way f)
 
   pub cases : Case n way
-  cases = carry_zero (decide (carryOf n way) 0)
+  cases = carry_zero (decide (carry_of n way) 0)
 
   -- an answer inside
   pub record In (m : ℕ) : Type 0 where
     pub cell : Valid m
     pub base : base_of m ≡ base_of n
-    pub res : resOf m ≡ resOf n
+    pub res : res_of m ≡ res_of n
 
-  packs : (m : ℕ) (es : List ℕ) → Fit (base_of n) es → length es ≡ resOf n → pack (base_of n) es ≡ m → In m
+  packs : (m : ℕ) (es : List ℕ) → Fit (base_of n) es → length es ≡ res_of n → pack (base_of n) es ≡ m → In m
   packs m es f l e =
       subst In e (record { cell = pack_valid (base_of n) es f; base = pack_base (base_of n) es f; res = pack_res (base_of n) es f ∙ l })
 
@@ -89,7 +89,7 @@ module _ (n way : ℕ) (v : Valid n) (hw : way < 7) where
   step_inside m t e = go cases
     where
       go : Case n way → In m
-      go (left f s) = (never (step_of n way) m t e).0 (carryOf n way) s
+      go (left f s) = (never (step_of n way) m t e).0 (carry_of n way) s
       go (stayed z k s) = packs m (news n way) (fit_news n way v hw k) (news_length n way v hw) (within (step_of n way) _ 0 m t s e).0
       go (deleted z p g f s) = (never (step_of n way) m t e).1 17 s
       go (ccw z p g f s) = packs m (map (turns true 1) (news n way)) (fit_turned n way v hw true g) (length_turned true 1 (news n way) ∙ news_length n way v hw) (within (step_of n way) _ 1 m t s e).0
@@ -104,7 +104,7 @@ all_zero d ds e = go (eqb (first ds) 0) refl
     go true q = (rw q at e, eqb-true (first ds) 0 q)
     go false q = absurd (eqb-false (first ds) 0 q (rw q at e))
 
-zeros : (d : ℕ) (ds : List ℕ) → first (d ∷ ds) ≡ 0 → Digits (d ∷ ds) → (leftOver (d ∷ ds) 1 ≡ 0) × (first (walked (d ∷ ds) 1) ≡ 1)
+zeros : (d : ℕ) (ds : List ℕ) → first (d ∷ ds) ≡ 0 → Digits (d ∷ ds) → (left_over (d ∷ ds) 1 ≡ 0) × (first (walked (d ∷ ds) 1) ≡ 1)
 unfolding first
 zeros d ds e h =
     let z = all_zero d ds e in
@@ -112,55 +112,55 @@ zeros d ds e h =
     let f = from_zero o 1 (lit< tt) in
     let s = walked_zero ds h.1 in
     let a : adjustment o d 1 ≡ 0 = ap (λ (x : ℕ). adjustment o x 1) z.0 ∙ f.1 in
-    let n : newDigit o d 1 ≡ 1 = ap (λ (x : ℕ). newDigit o x 1) z.0 ∙ f.0 in
-    (ap (leftOver ds) a ∙ s.1, rw (n, a, s.0, z.1))
+    let n : new_digit o d 1 ≡ 1 = ap (λ (x : ℕ). new_digit o x 1) z.0 ∙ f.0 in
+    (ap (left_over ds) a ∙ s.1, rw (n, a, s.0, z.1))
 
 -- resolution 0 is always left
-off : (n r way : ℕ) → r ≡ 0 → leftOver (used n r) way ≡ way
+off : (n r way : ℕ) → r ≡ 0 → left_over (used n r) way ≡ way
 unfolding used
 off n zero way q = refl
 off n (suc r) way q = absurd (omega arith)
 
-pub step_coarsest : (n way : ℕ) → 1 ≤ way → resOf n ≡ 0 → step_of n way ≡ answered (leaves way)
-unfolding carryOf
+pub step_coarsest : (n way : ℕ) → 1 ≤ way → res_of n ≡ 0 → step_of n way ≡ answered (leaves way)
+unfolding carry_of
 step_coarsest n way l e =
-    let c : carryOf n way ≡ way = off n (resOf n) way e in
+    let c : carry_of n way ≡ way = off n (res_of n) way e in
     leaving n way (λ q. omega arith) ∙ ap (λ (x : ℕ). answered (leaves x)) c
 
 -- refusal 17
-zeros_walked : (n r : ℕ) → 1 ≤ r → first (used n r) ≡ 0 → Digits (used n r) → (leftOver (used n r) 1 ≡ 0) × (first (walked (used n r) 1) ≡ 1)
+zeros_walked : (n r : ℕ) → 1 ≤ r → first (used n r) ≡ 0 → Digits (used n r) → (left_over (used n r) 1 ≡ 0) × (first (walked (used n r) 1) ≡ 1)
 unfolding used
 zeros_walked n zero l e h = absurd (omega arith)
 zeros_walked n (suc r) l e h = zeros (digit n (suc r)) (used n r) e h
 
 -- a pentagon of resolution 1 or finer
 pub record Pentagon (n : ℕ) : Type 0 where
-  pub base : isPentagonal (base_of n) ≡ true
-  pub zeros : first_of n (resOf n) ≡ 0
-  pub finer : 1 ≤ resOf n
+  pub base : is_pentagonal (base_of n) ≡ true
+  pub zeros : first_of n (res_of n) ≡ 0
+  pub finer : 1 ≤ res_of n
 
-finer : (n way : ℕ) → 1 ≤ way → carryOf n way ≡ 0 → 1 ≤ resOf n
-unfolding carryOf
-finer n way l z = ⊎_elim (λ (q : resOf n ≡ 0). absurd (let c = off n (resOf n) way q in let d = z in omega arith)) (λ (q : 0 < resOf n). q) (eq-zero-or-pos (resOf n))
+finer : (n way : ℕ) → 1 ≤ way → carry_of n way ≡ 0 → 1 ≤ res_of n
+unfolding carry_of
+finer n way l z = ⊎_elim (λ (q : res_of n ≡ 0). absurd (let c = off n (res_of n) way q in let d = z in omega arith)) (λ (q : 0 < res_of n). q) (eq-zero-or-pos (res_of n))
 
 unrefused : {A : Type 0} (x : Outcome Answer) → x ≡ refused 17 → (w : Answer) → x ≡ answered w → A
 unrefused x p w q = absurd (let z : ◌≡◌ {A = ℕ} 0 1 = cc in omega arith)
 
 pub deleted_way : (n way : ℕ) → Valid n → 1 ≤ way → way < 7 → (step_of n way ≡ refused 17) ↔ (Pentagon n × (way ≡ 1))
-unfolding carryOf
+unfolding carry_of
 deleted_way n way v l hw = (
   λ e. go e (cases n way v hw),
   λ p.
-      let f = sym (first_used n (resOf n)) in
-      let z = zeros_walked n (resOf n) p.0.finer (first_used n (resOf n) ∙ p.0.zeros) (fit n v).digits in
-      subst (λ (w : ℕ). step_of n w ≡ refused 17) (sym p.1) (refusing n 1 z.0 p.0.base z.1 (first_used n (resOf n) ∙ p.0.zeros)),
+      let f = sym (first_used n (res_of n)) in
+      let z = zeros_walked n (res_of n) p.0.finer (first_used n (res_of n) ∙ p.0.zeros) (fit n v).digits in
+      subst (λ (w : ℕ). step_of n w ≡ refused 17) (sym p.1) (refusing n 1 z.0 p.0.base z.1 (first_used n (res_of n) ∙ p.0.zeros)),
 )
   where
     go : step_of n way ≡ refused 17 → Case n way → Pentagon n × (way ≡ 1)
     go e (left f s) = unrefused (step_of n way) e _ s
     go e (stayed z k s) = unrefused (step_of n way) e _ s
     go e (deleted z p g f s) = (
-      record { base = p; zeros = sym (first_used n (resOf n)) ∙ f; finer = finer n way l z },
+      record { base = p; zeros = sym (first_used n (res_of n)) ∙ f; finer = finer n way l z },
       from_zeros (olds n) way (fit n v).digits hw z g f,
     )
     go e (ccw z p g f s) = unrefused (step_of n way) e _ s

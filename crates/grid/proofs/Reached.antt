@@ -11,8 +11,8 @@ use Rattle.plane.specs.Strings.{Digits, odd}
 use Rattle.plane.proofs.Every.{every}
 use Rattle.index.specs.View.{first}
 use Rattle.turns.proofs.Turning.{first_below}
-use Rattle.walks.specs.Tables.{newDigit, adjustment}
-use Rattle.walks.specs.Walks.{walked, leftOver}
+use Rattle.walks.specs.Tables.{new_digit, adjustment}
+use Rattle.walks.specs.Walks.{walked, left_over}
 use Rattle.walks.proofs.Tables.{at_pair, adjusted_below}
 use Rattle.walks.proofs.Walks.{digits_walked}
 
@@ -24,7 +24,7 @@ reached f g way =
 
 -- with a finer digit in front
 kept : Bool → ℕ → ℕ → ℕ → ℕ → Bool
-kept o f g d way = not (reached f g (adjustment o d way)) || reached (cond (eqb f 0) d f) (cond (eqb g 0) (newDigit o d way) g) way
+kept o f g d way = not (reached f g (adjustment o d way)) || reached (cond (eqb f 0) d f) (cond (eqb g 0) (new_digit o d way) g) way
 
 kept_all : (o : Bool) → T (every 7 (λ f. every 7 (λ g. every 7 (λ d. every 7 (kept o f g d)))))
 unfolding kept reached
@@ -36,13 +36,13 @@ implied true true t h = tt
 implied true false t h = absurd t
 implied false b t h = absurd h
 
-keeps : (o : Bool) (f g d way : ℕ) → f < 7 → g < 7 → d < 7 → way < 7 → T (reached f g (adjustment o d way)) → T (reached (cond (eqb f 0) d f) (cond (eqb g 0) (newDigit o d way) g) way)
+keeps : (o : Bool) (f g d way : ℕ) → f < 7 → g < 7 → d < 7 → way < 7 → T (reached f g (adjustment o d way)) → T (reached (cond (eqb f 0) d f) (cond (eqb g 0) (new_digit o d way) g) way)
 unfolding kept
 keeps o f g d way hf hg hd hw =
-    implied (reached f g (adjustment o d way)) (reached (cond (eqb f 0) d f) (cond (eqb g 0) (newDigit o d way) g) way)
+    implied (reached f g (adjustment o d way)) (reached (cond (eqb f 0) d f) (cond (eqb g 0) (new_digit o d way) g) way)
     (at_pair (kept o f g) (at_pair (λ (f g : ℕ). every 7 (λ d. every 7 (kept o f g d))) (kept_all o) f g hf hg) d way hd hw)
 
-reach : (ds : List ℕ) (way : ℕ) → Digits ds → way < 7 → leftOver ds way ≡ 0 → T (reached (first ds) (first (walked ds way)) way)
+reach : (ds : List ℕ) (way : ℕ) → Digits ds → way < 7 → left_over ds way ≡ 0 → T (reached (first ds) (first (walked ds way)) way)
 unfolding first reached
 reach [] way h hw e = subst (λ (x : ℕ). T (reached 0 0 x)) (sym e) tt
 reach (d ∷ ds) way h hw e =
@@ -79,7 +79,7 @@ one_of f t not-one = split (either (eqb f 0) (eqb f 1 || (eqb f 3 || eqb f 5)) t
     split (inl x) = inl (eqb→eq f 0 x)
     split (inr x) = more (either (eqb f 1) (eqb f 3 || eqb f 5) x)
 
-pub origins : (ds : List ℕ) (way : ℕ) → Digits ds → way < 7 → leftOver ds way ≡ 0 → first (walked ds way) ≡ 1 → (first ds ≡ 1 → ⊥) → (first ds ≡ 0) ⊎ ((first ds ≡ 3) ⊎ (first ds ≡ 5))
+pub origins : (ds : List ℕ) (way : ℕ) → Digits ds → way < 7 → left_over ds way ≡ 0 → first (walked ds way) ≡ 1 → (first ds ≡ 1 → ⊥) → (first ds ≡ 0) ⊎ ((first ds ≡ 3) ⊎ (first ds ≡ 5))
 unfolding origin
 origins ds way h hw e g =
     let f = first ds in
@@ -87,6 +87,6 @@ origins ds way h hw e g =
     (implied (reached f 1 way) (eqb f 0 || (eqb f 1 || (eqb f 3 || eqb f 5))) (at_pair origin origin_all f way (first_below ds h) hw)
     (subst (λ (x : ℕ). T (reached f x way)) g (reach ds way h hw e)))
 
-pub from_zeros : (ds : List ℕ) (way : ℕ) → Digits ds → way < 7 → leftOver ds way ≡ 0 → first (walked ds way) ≡ 1 → first ds ≡ 0 → way ≡ 1
+pub from_zeros : (ds : List ℕ) (way : ℕ) → Digits ds → way < 7 → left_over ds way ≡ 0 → first (walked ds way) ≡ 1 → first ds ≡ 0 → way ≡ 1
 unfolding reached
 from_zeros ds way h hw e g z = eqb→eq way 1 (subst (λ (x : ℕ). T (reached x 1 way)) z (subst (λ (x : ℕ). T (reached (first ds) x way)) g (reach ds way h hw e)))

@@ -1,7 +1,7 @@
 // The step (grid/algo.rs).
 ghost use Rattle.std.specs.Prelude.{◌≡◌, ◌<◌, ◌≤◌};
 ghost use Rattle.index.specs.Layout.{Valid};
-ghost use Rattle.grid.specs.Steps.{step_of, toldStep};
+ghost use Rattle.grid.specs.Steps.{step_of, step_told};
 
 use index::{Cell, inside};
 use plane::direction;
@@ -20,7 +20,7 @@ pub enum Stepped {
 
 pub fn step(c: Cell, d: Direction) -> Stepped
     requires { Valid c.0 × (1 ≤ d.0) × (d.0 < 7) }
-    ensures { toldStep result ≡ step_of c.0 d.0 }
+    ensures { step_told result ≡ step_of c.0 d.0 }
 {
     let w = walk(c, d);
     let n = w.number;

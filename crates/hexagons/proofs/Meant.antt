@@ -10,10 +10,10 @@ use lib.Dec.{eqb, ltb}
 use lib.IntN.{pos}
 use lib.Signed.{le_z}
 use borrow.Author.Tests.{ltb-false, le-ltb, eqb-false, not-true, not-false}
-use Rattle.index.specs.Layout.{Valid, resOf}
+use Rattle.index.specs.Layout.{Valid, res_of}
 use Rattle.index.specs.Refusals.{Rule, ◌when◌, Outcome, answered, refused, judged, Met}
 use Rattle.index.specs.View.{used}
-use Rattle.index.specs.Check.{cellRules}
+use Rattle.index.specs.Check.{cell_rules}
 use Rattle.index.proofs.Rules.{refused_inj, never, refused_met, answered_same, answered_clear, clear_answered, clear_parts, cleared, hit, Others, later, joined}
 use Rattle.index.proofs.Some.{both_off}
 use Rattle.index.proofs.Validity.{clear_valid, valid_clear}
@@ -36,89 +36,89 @@ use Rattle.centres.specs.Centres.{StringOf, Reads}
 use Rattle.centres.specs.Centres as centres
 use Rattle.grid.specs.Steps as steps
 use Rattle.grid.proofs.Inside.{Pentagon, deleted_way}
-use Rattle.entry.specs.Answers.{toldGiven}
-use Rattle.entry.specs.Rules.{resolutionRule, wayRule, rangeRule, onwardRule}
+use Rattle.entry.specs.Answers.{given_told}
+use Rattle.entry.specs.Rules.{resolution_rule, way_rule, range_rule, onward_rule}
 use Rattle.cell_entries.specs.Cells.{position_of}
-use Rattle.point_entries.specs.Points.{unit_of, directionOf, unitRule}
-use Rattle.step_entries.specs.Steps.{ReadsBack, Under, onwardRules, after, step_of}
+use Rattle.point_entries.specs.Points.{unit_of, direction_of_point, unit_rule}
+use Rattle.step_entries.specs.Steps.{ReadsBack, Under, onward_rules, after, step_of}
 use Rattle.step_entries.specs.Steps as entries
 
 -- the rules of a cell have the numbers 1 to 7
-others : (n k : ℕ) → 7 < k → Others k (cellRules n)
+others : (n k : ℕ) → 7 < k → Others k (cell_rules n)
 others n k h = (λ e. omega arith, (λ e. omega arith, (λ e. omega arith, (λ e. omega arith, (λ e. omega arith, (λ e. omega arith, (λ e. omega arith, tt)))))))
 
-unchild : (g : Given) → toldGiven g ≡ refused 11 → (d : Cursor) × (g ≡ Given.Refused d)
+unchild : (g : Given) → given_told g ≡ refused 11 → (d : Cursor) × (g ≡ Given.Refused d)
 unchild (Given.Child y d) e = absurd (never e)
 unchild (Given.Done d) e = absurd (never e)
 unchild (Given.Refused d) e = (d, refl)
 
-pub given_11 : (c : Cursor) → c.number < 2 ^ 64 → (toldGiven (next_of c) ≡ refused 11) ↔ (Made c → ⊥)
-given_11 c h = (λ e m. let g = unchild (next_of c) e in made_given c g.0 m g.1, λ none. ap toldGiven (unmade_refused c h none))
+pub given_11 : (c : Cursor) → c.number < 2 ^ 64 → (given_told (next_of c) ≡ refused 11) ↔ (Made c → ⊥)
+given_11 c h = (λ e m. let g = unchild (next_of c) e in made_given c g.0 m g.1, λ none. ap given_told (unmade_refused c h none))
 
-pub given_12 : (n y : ℕ) → n < 2 ^ 64 → y < 2 ^ 64 → (position_of n y ≡ refused 12) ↔ (Valid n × Valid y × (Descendant n (resOf y) y → ⊥))
+pub given_12 : (n y : ℕ) → n < 2 ^ 64 → y < 2 ^ 64 → (position_of n y ≡ refused 12) ↔ (Valid n × Valid y × (Descendant n (res_of y) y → ⊥))
 given_12 n y hn hy = (there, back)
   where
-    there : position_of n y ≡ refused 12 → Valid n × Valid y × (Descendant n (resOf y) y → ⊥)
+    there : position_of n y ≡ refused 12 → Valid n × Valid y × (Descendant n (res_of y) y → ⊥)
     there e =
-        let a = later 12 (cellRules n) (cellRules y ++ ((12 when not (positions.under n y)) ∷ [])) (others n 12 (omega arith)) (refused_met (cellRules n ++ (cellRules y ++ ((12 when not (positions.under n y)) ∷ []))) (positions.position_of n y) 12 e) in
-        let b = later 12 (cellRules y) ((12 when not (positions.under n y)) ∷ []) (others y 12 (omega arith)) a.1 in
+        let a = later 12 (cell_rules n) (cell_rules y ++ ((12 when not (positions.under n y)) ∷ [])) (others n 12 (omega arith)) (refused_met (cell_rules n ++ (cell_rules y ++ ((12 when not (positions.under n y)) ∷ []))) (positions.position_of n y) 12 e) in
+        let b = later 12 (cell_rules y) ((12 when not (positions.under n y)) ∷ []) (others y 12 (omega arith)) a.1 in
         let v = clear_valid n a.0 in (
           v,
           clear_valid y b.0,
-          λ d. ⊎_elim (λ q. true≢false (sym (descendant_under n (resOf y) y hn v d) ∙ not-true (positions.under n y) q.0)) (λ q. q.1) b.1,
+          λ d. ⊎_elim (λ q. true≢false (sym (descendant_under n (res_of y) y hn v d) ∙ not-true (positions.under n y) q.0)) (λ q. q.1) b.1,
         )
 
-    outside : (Descendant n (resOf y) y → ⊥) → Valid y → (t : Bool) → positions.under n y ≡ t → not t ≡ true
+    outside : (Descendant n (res_of y) y → ⊥) → Valid y → (t : Bool) → positions.under n y ≡ t → not t ≡ true
     outside none v true e = absurd (none (under_descendant n y hy v e))
     outside none v false e = refl
 
-    back : Valid n × Valid y × (Descendant n (resOf y) y → ⊥) → position_of n y ≡ refused 12
+    back : Valid n × Valid y × (Descendant n (res_of y) y → ⊥) → position_of n y ≡ refused 12
     back p =
-        cleared (cellRules n) (cellRules y ++ ((12 when not (positions.under n y)) ∷ [])) (positions.position_of n y) (valid_clear n p.0)
-        ∙ cleared (cellRules y) ((12 when not (positions.under n y)) ∷ []) (positions.position_of n y) (valid_clear y p.1)
+        cleared (cell_rules n) (cell_rules y ++ ((12 when not (positions.under n y)) ∷ [])) (positions.position_of n y) (valid_clear n p.0)
+        ∙ cleared (cell_rules y) ((12 when not (positions.under n y)) ∷ []) (positions.position_of n y) (valid_clear y p.1)
         ∙ hit 12 (not (positions.under n y)) [] (positions.position_of n y) (outside p.2 p.1 (positions.under n y) refl)
 
 pub given_15 : (r : ℕ) (p : IJK) → ReadsBack r p (refused 15) ↔ ((r ≤ 15) × (point_in_range p ≡ true) × ((ds : List ℕ) → StringOf r p ds → ⊥))
-given_15 r p = (λ e. there (judged (resolutionRule r ∷ rangeRule p ∷ []) tt) refl e, back)
+given_15 r p = (λ e. there (judged (resolution_rule r ∷ range_rule p ∷ []) tt) refl e, back)
   where
-    there : (o : Outcome (Unit {0})) → judged (resolutionRule r ∷ rangeRule p ∷ []) tt ≡ o → Under o (Reads r p) (refused 15) → (r ≤ 15) × (point_in_range p ≡ true) × ((ds : List ℕ) → StringOf r p ds → ⊥)
+    there : (o : Outcome (Unit {0})) → judged (resolution_rule r ∷ range_rule p ∷ []) tt ≡ o → Under o (Reads r p) (refused 15) → (r ≤ 15) × (point_in_range p ≡ true) × ((ds : List ℕ) → StringOf r p ds → ⊥)
     there (answered u) q e =
-        let c = answered_clear (resolutionRule r ∷ rangeRule p ∷ []) tt u q in
+        let c = answered_clear (resolution_rule r ∷ range_rule p ∷ []) tt u q in
         (ltb-false 15 r c.0, not-false (point_in_range p) c.1.0, e.1)
-    there (refused k) q e = absurd (unlike (refused_met (resolutionRule r ∷ rangeRule p ∷ []) tt 15 (q ∙ ap refused (sym (refused_inj e)))))
+    there (refused k) q e = absurd (unlike (refused_met (resolution_rule r ∷ range_rule p ∷ []) tt 15 (q ∙ ap refused (sym (refused_inj e)))))
       where
-        unlike : Met 15 (resolutionRule r ∷ rangeRule p ∷ []) → ⊥
-        unlike m = (later 15 (resolutionRule r ∷ rangeRule p ∷ []) [] (λ x. omega arith, (λ x. omega arith, tt)) m).1
+        unlike : Met 15 (resolution_rule r ∷ range_rule p ∷ []) → ⊥
+        unlike m = (later 15 (resolution_rule r ∷ range_rule p ∷ []) [] (λ x. omega arith, (λ x. omega arith, tt)) m).1
 
     back : (r ≤ 15) × (point_in_range p ≡ true) × ((ds : List ℕ) → StringOf r p ds → ⊥) → ReadsBack r p (refused 15)
     back q =
         subst (λ (o : Outcome (Unit {0})). Under o (Reads r p) (refused 15))
-        (sym (clear_answered (resolutionRule r ∷ rangeRule p ∷ []) tt (le-ltb 15 r q.0, (ap not q.1, tt))))
+        (sym (clear_answered (resolution_rule r ∷ range_rule p ∷ []) tt (le-ltb 15 r q.0, (ap not q.1, tt))))
         (refl, q.2)
 
-pub given_16 : (t : IJK) → (directionOf t ≡ refused 16) ↔ ((point_in_range t ≡ true) × ((d : ℕ) → d < 7 → Same t (unit d) → ⊥))
+pub given_16 : (t : IJK) → (direction_of_point t ≡ refused 16) ↔ ((point_in_range t ≡ true) × ((d : ℕ) → d < 7 → Same t (unit d) → ⊥))
 given_16 t = (there, back)
   where
-    there : directionOf t ≡ refused 16 → (point_in_range t ≡ true) × ((d : ℕ) → d < 7 → Same t (unit d) → ⊥)
+    there : direction_of_point t ≡ refused 16 → (point_in_range t ≡ true) × ((d : ℕ) → d < 7 → Same t (unit d) → ⊥)
     there e =
-        let a = later 16 (rangeRule t ∷ []) (unitRule t ∷ []) (λ x. omega arith, tt) (refused_met (rangeRule t ∷ unitRule t ∷ []) (value (normal t)) 16 e) in
+        let a = later 16 (range_rule t ∷ []) (unit_rule t ∷ []) (λ x. omega arith, tt) (refused_met (range_rule t ∷ unit_rule t ∷ []) (value (normal t)) 16 e) in
         (not-false (point_in_range t) a.0.0, ⊎_elim (λ q. (not_unit t).0 (ap (λ (b : Bool). cond b (Found (direction (value (normal t)))) NotUnit) (not-true (le_z (largest (normal t)) (pos 1)) q.0))) (λ q. absurd q.1) a.1)
 
     far : (b : Bool) → le_z (largest (normal t)) (pos 1) ≡ b → direction_of t ≡ NotUnit → not b ≡ true
     far true e w = absurd (apart (direction_of t) (value (normal t)) (ap (λ (b : Bool). cond b (Found (direction (value (normal t)))) NotUnit) e) w)
     far false e w = refl
 
-    back : (point_in_range t ≡ true) × ((d : ℕ) → d < 7 → Same t (unit d) → ⊥) → directionOf t ≡ refused 16
+    back : (point_in_range t ≡ true) × ((d : ℕ) → d < 7 → Same t (unit d) → ⊥) → direction_of_point t ≡ refused 16
     back p =
-        cleared (rangeRule t ∷ []) (unitRule t ∷ []) (value (normal t)) (ap not p.0, tt)
+        cleared (range_rule t ∷ []) (unit_rule t ∷ []) (value (normal t)) (ap not p.0, tt)
         ∙ hit 16 (not (le_z (largest (normal t)) (pos 1))) [] (value (normal t)) (far (le_z (largest (normal t)) (pos 1)) refl ((not_unit t).1 p.1))
 
 pub given_17 : (n way : ℕ) → (step_of n way ≡ refused 17) ↔ (Valid n × Pentagon n × (way ≡ 1))
-given_17 n way = (λ e. there (judged (onwardRules n way) tt) refl e, back)
+given_17 n way = (λ e. there (judged (onward_rules n way) tt) refl e, back)
   where
-    there : (o : Outcome (Unit {0})) → judged (onwardRules n way) tt ≡ o → after o (steps.step_of n way) ≡ refused 17 → Valid n × Pentagon n × (way ≡ 1)
+    there : (o : Outcome (Unit {0})) → judged (onward_rules n way) tt ≡ o → after o (steps.step_of n way) ≡ refused 17 → Valid n × Pentagon n × (way ≡ 1)
     there (answered u) q e =
-        let c = clear_parts (cellRules n) (onwardRule way ∷ []) (answered_clear (onwardRules n way) tt u q) in
+        let c = clear_parts (cell_rules n) (onward_rule way ∷ []) (answered_clear (onward_rules n way) tt u q) in
         let v = clear_valid n c.0 in
         let w = both_off (eqb way 0) (ltb 6 way) c.1.0 in
         let d = (deleted_way n way v (low (eqb-false way 0 w.0)) (omega (arith, ltb-false 6 way w.1))).0 e in
@@ -126,15 +126,15 @@ given_17 n way = (λ e. there (judged (onwardRules n way) tt) refl e, back)
       where
         low : (way ≡ 0 → ⊥) → 1 ≤ way
         low x = omega arith
-    there (refused k) q e = absurd (unlike (refused_met (onwardRules n way) tt 17 (q ∙ ap refused (refused_inj e))))
+    there (refused k) q e = absurd (unlike (refused_met (onward_rules n way) tt 17 (q ∙ ap refused (refused_inj e))))
       where
-        unlike : Met 17 (onwardRules n way) → ⊥
-        unlike m = (later 17 (onwardRule way ∷ []) [] (λ x. omega arith, tt) (later 17 (cellRules n) (onwardRule way ∷ []) (others n 17 (omega arith)) m).1).1
+        unlike : Met 17 (onward_rules n way) → ⊥
+        unlike m = (later 17 (onward_rule way ∷ []) [] (λ x. omega arith, tt) (later 17 (cell_rules n) (onward_rule way ∷ []) (others n 17 (omega arith)) m).1).1
 
     back : Valid n × Pentagon n × (way ≡ 1) → step_of n way ≡ refused 17
     back p =
         let w : way ≡ 1 = p.2 in
-        ap (λ (o : Outcome (Unit {0})). after o (steps.step_of n way)) (clear_answered (onwardRules n way) tt (joined (cellRules n) (onwardRule way ∷ []) (valid_clear n p.0) (ap (λ (x : ℕ). eqb x 0 || ltb 6 x) w, tt)))
+        ap (λ (o : Outcome (Unit {0})). after o (steps.step_of n way)) (clear_answered (onward_rules n way) tt (joined (cell_rules n) (onward_rule way ∷ []) (valid_clear n p.0) (ap (λ (x : ℕ). eqb x 0 || ltb 6 x) w, tt)))
         ∙ (deleted_way n way p.0 (omega arith) (omega arith)).1 (p.1, p.2)
 
 -- every point answered is in normal form: where the answer is the normal form of something, as normalise, neighbour, from_ij and the images have it, and
@@ -144,9 +144,9 @@ normal_answered rules t p e = subst (λ (x : IJK). normal x ≡ x) (answered_sam
 
 pub unit_answered : (d : ℕ) (p : IJK) → unit_of d ≡ answered p → normal p ≡ p
 unit_answered d p e =
-    let c = answered_clear (wayRule d ∷ []) (unit d) p e in
-    subst (λ (x : IJK). normal x ≡ x) (answered_same (wayRule d ∷ []) (unit d) p e) (unit_normal d (omega (arith, ltb-false 6 d c.0)))
+    let c = answered_clear (way_rule d ∷ []) (unit d) p e in
+    subst (λ (x : IJK). normal x ≡ x) (answered_same (way_rule d ∷ []) (unit d) p e) (unit_normal d (omega (arith, ltb-false 6 d c.0)))
 
-pub centre_answered : (n : ℕ) (p : IJK) → entries.centreOf n ≡ answered p → normal p ≡ p
-unfolding centres.centreOf
-centre_answered n p e = subst (λ (x : IJK). normal x ≡ x) (answered_same (cellRules n) (centres.centreOf n) p e) (centre_normal (used n (resOf n)))
+pub centre_answered : (n : ℕ) (p : IJK) → entries.centre_of n ≡ answered p → normal p ≡ p
+unfolding centres.centre_of
+centre_answered n p e = subst (λ (x : IJK). normal x ≡ x) (answered_same (cell_rules n) (centres.centre_of n) p e) (centre_normal (used n (res_of n)))

@@ -12,7 +12,7 @@ use Rattle.step_entries.specs.Steps.{ReadsBack, step_of}
 infix 20 ◌gives◌
 pub data Row : Type 1 where
   ◌gives◌ : {A : Type 0} → Outcome A → Outcome A → Row
-  readBack : ℕ → IJK → Outcome ℕ → Row
+  read_back : ℕ → IJK → Outcome ℕ → Row
 
 -- the elements that a listing writes into a buffer of so many
 abbrev written : Outcome ℕ → List ℕ → Outcome (List ℕ)
@@ -42,11 +42,11 @@ table =
     ∷ (step_of 0x081083ffffffffff 1 gives refused 17)
     ∷ (step_of 0x081013ffffffffff 4 gives answered (leaves 4))
     ∷ (step_of 0x081013ffffffffff 3 gives answered (inside 0x081003ffffffffff 0))
-    ∷ readBack 1 (vec 0 0 2) (refused 15)
+    ∷ read_back 1 (vec 0 0 2) (refused 15)
     ∷ []
 
 -- each row of the table is true
 abbrev pub Holds : List Row → Type 0
 Holds [] = Unit {0}
 Holds ((request gives outcome) ∷ rows) = (request ≡ outcome) × Holds rows
-Holds (readBack length point outcome ∷ rows) = ReadsBack length point outcome × Holds rows
+Holds (read_back length point outcome ∷ rows) = ReadsBack length point outcome × Holds rows

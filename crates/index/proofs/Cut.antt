@@ -3,9 +3,9 @@
 use Rattle.std.proofs.Common.{◌≡◌, ℕ, zero, suc, ◌+◌, ◌-◌, ◌*◌, ◌%◌, ◌^◌, ◌<◌, ◌≤◌, sym, ap, ◌∙◌, subst, ⊎_elim, le_of_suc-le-suc, not-suc-le-zero, eq-or-lt_of_le, div-one, arith, pow-add}
 use native.Mathlib.Nat.{mod-le}
 use lib.Arith.{digits_lt}
-use Rattle.index.specs.Layout.{resOf, base_of, first_of, Valid}
+use Rattle.index.specs.Layout.{res_of, base_of, first_of, Valid}
 use Rattle.index.specs.View.{used, pack, first, Fit}
-use Rattle.index.specs.Ancestor.{ancestorOf}
+use Rattle.index.specs.Ancestor.{ancestor_of}
 use Rattle.index.proofs.Runs.{eights_pos, run, octal_used, length_used}
 use Rattle.index.proofs.Sum.{sum}
 use Rattle.index.proofs.View.{low_split, run_lt, small_used, first_used, pack_valid, pack_res, pack_base, pack_fits, pack_used}
@@ -20,34 +20,34 @@ first_on n t (suc k) h e =
     (eq-or-lt_of_le h)
 
 -- the cut digits of a cell make a cell
-module _ (n t : ℕ) (v : Valid n) (l : t ≤ resOf n) where
+module _ (n t : ℕ) (v : Valid n) (l : t ≤ res_of n) where
   pub fit_cut : Fit (base_of n) (used n t)
   fit_cut =
       record {
         base = v.base;
         short = rw length_used (omega arith);
         digits = small_used n t (λ r g m. v.small r g (omega arith));
-        kept = λ q e. v.kept q (first_on n t (resOf n) l (sym (first_used n t) ∙ e));
+        kept = λ q e. v.kept q (first_on n t (res_of n) l (sym (first_used n t) ∙ e));
       }
 
-  pub ancestor_valid : Valid (ancestorOf n t)
-  unfolding ancestorOf
+  pub ancestor_valid : Valid (ancestor_of n t)
+  unfolding ancestor_of
   ancestor_valid = pack_valid (base_of n) (used n t) fit_cut
 
-  pub ancestor_res : resOf (ancestorOf n t) ≡ t
-  unfolding ancestorOf
+  pub ancestor_res : res_of (ancestor_of n t) ≡ t
+  unfolding ancestor_of
   ancestor_res = pack_res (base_of n) (used n t) fit_cut ∙ length_used n t
 
-  pub ancestor_base : base_of (ancestorOf n t) ≡ base_of n
-  unfolding ancestorOf
+  pub ancestor_base : base_of (ancestor_of n t) ≡ base_of n
+  unfolding ancestor_of
   ancestor_base = pack_base (base_of n) (used n t) fit_cut
 
-  pub ancestor_fits : ancestorOf n t < 2 ^ 60
-  unfolding ancestorOf
+  pub ancestor_fits : ancestor_of n t < 2 ^ 60
+  unfolding ancestor_of
   ancestor_fits = pack_fits (base_of n) (used n t) fit_cut
 
-  pub ancestor_used : used (ancestorOf n t) t ≡ used n t
-  unfolding ancestorOf
+  pub ancestor_used : used (ancestor_of n t) t ≡ used n t
+  unfolding ancestor_of
   ancestor_used = subst (λ (k : ℕ). used (pack (base_of n) (used n t)) k ≡ used n t) (length_used n t) (pack_used (base_of n) (used n t) fit_cut)
 
 -- what `ancestor` computes, step by step
@@ -56,9 +56,9 @@ pub record Steps (n t own u : ℕ) : Type 0 where
   pub less : n % u ≤ n
   pub fits : n - n % u + (u - 1) < 2 ^ 64
   pub above : (own - t) * 2 ^ 52 ≤ n - n % u + (u - 1)
-  pub total : n - n % u + (u - 1) - (own - t) * 2 ^ 52 ≡ ancestorOf n t
+  pub total : n - n % u + (u - 1) - (own - t) * 2 ^ 52 ≡ ancestor_of n t
 
-module _ (n t own u : ℕ) (h64 : n < 2 ^ 64) (v : Valid n) (l : t ≤ resOf n) (eo : own ≡ resOf n) (eu : u ≡ 8 ^ (15 - t)) where
+module _ (n t own u : ℕ) (h64 : n < 2 ^ 64) (v : Valid n) (l : t ≤ res_of n) (eo : own ≡ res_of n) (eu : u ≡ 8 ^ (15 - t)) where
   t_le : t ≤ 15
   t_le = omega arith
 
@@ -95,8 +95,8 @@ module _ (n t own u : ℕ) (h64 : n < 2 ^ 64) (v : Valid n) (l : t ≤ resOf n) 
       lin : (n own b x r u : ℕ) → n ≡ 2 ^ 59 + own * 2 ^ 52 + b * 2 ^ 45 + (x + r) → own ≤ 15 → b ≤ 127 → x + (u - 1) < 2 ^ 45 → n - r + (u - 1) < 2 ^ 64
       lin n own b x r u e h g f = omega arith
 
-  cut_total : n - n % u + (u - 1) - (own - t) * 2 ^ 52 ≡ ancestorOf n t
-  unfolding ancestorOf pack
+  cut_total : n - n % u + (u - 1) - (own - t) * 2 ^ 52 ≡ ancestor_of n t
+  unfolding ancestor_of pack
   cut_total = rw (length_used n t, octal_used n t t_le, ← eu) (lin n own t (base_of n) (run n 0 t * u) (n % u) u (omega arith) u_pos whole)
     where
       lin : (n own t b x r u : ℕ) → t ≤ own → 1 ≤ u → n ≡ 2 ^ 59 + own * 2 ^ 52 + b * 2 ^ 45 + (x + r) → n - r + (u - 1) - (own - t) * 2 ^ 52 ≡ 2 ^ 59 + t * 2 ^ 52 + b * 2 ^ 45 + (x + (u - 1))

@@ -4,8 +4,8 @@ use native.Mathlib.Decide.{dec_le}
 use lib.Bits.{bit_and, and_le_r}
 use borrow.Author.Tests.{not-false}
 use Rattle.plane.proofs.Every.{at_eq}
-use Rattle.index.specs.Layout.{digit, resOf}
-use Rattle.index.specs.Check.{some, someSeven, someOther}
+use Rattle.index.specs.Layout.{digit, res_of}
+use Rattle.index.specs.Check.{some, some_seven, some_other}
 use Rattle.index.specs.Words.{Each, mark, ones}
 use Rattle.index.proofs.Runs.{run, run_zero, run_suc}
 use Rattle.index.proofs.View.{low_split}
@@ -70,14 +70,14 @@ module _ (n s : ℕ) (m : Each mark n s) where
       )
 
   -- the two tests of the check
-  module _ (u : ℕ) (eu : u ≡ ones (15 - resOf n)) where
+  module _ (u : ℕ) (eu : u ≡ ones (15 - res_of n)) where
     abbrev r : ℕ
-    r = resOf n
+    r = res_of n
 
     whole : s ≡ run s 0 r * 8 ^ (15 - r) + run s r (15 - r)
     whole = sym (mod-eq_of_lt m.short) ∙ low_split s r (omega arith)
 
-    others : (run s r (15 - r) ≤ ones (15 - r)) × (someOther n ≡ ltb (run s r (15 - r)) (ones (15 - r)))
+    others : (run s r (15 - r) ≤ ones (15 - r)) × (some_other n ≡ ltb (run s r (15 - r)) (ones (15 - r)))
     others = other_run r (15 - r) (omega arith)
 
     none : s ≤ u → run s 0 r ≡ 0
@@ -86,14 +86,14 @@ module _ (n s : ℕ) (m : Each mark n s) where
     rest_of : run s 0 r ≡ 0 → s ≡ run s r (15 - r)
     rest_of z = let w : s ≡ 0 * 8 ^ (15 - r) + run s r (15 - r) = rw z at whole in omega arith
 
-    pub over : ltb u s ≡ someSeven n
+    pub over : ltb u s ≡ some_seven n
     over =
         elim (dec_le s u) [
           | yes h ↦ le-ltb u s h ∙ sym (seven_run r (omega arith) ∙ rw (none h))
           | no h ↦ lt-ltb u s (omega arith) ∙ sym (seven_run r (omega arith) ∙ rw (ne_eqb (run s 0 r) 0 (λ z. omega (arith, rest_of z, others.0))))
         ]
 
-    pub under : someSeven n ≡ false → ltb s u ≡ someOther n
+    pub under : some_seven n ≡ false → ltb s u ≡ some_other n
     under h =
         let z : run s 0 r ≡ 0 = eqb-true _ _ (not-false _ (sym (seven_run r (omega arith)) ∙ h)) in
         rw (rest_of z, eu) (sym others.1)

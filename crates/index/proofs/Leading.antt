@@ -2,8 +2,8 @@
 use Rattle.std.proofs.Common.{◌≡◌, ℕ, zero, suc, ◌+◌, ◌-◌, ◌*◌, ◌/◌, ◌^◌, ◌<◌, ◌≤◌, Bool, true, false, cond, ◌&&◌, eqb, ltb, ◌⊎◌, sym, refl, ap, ◌∙◌, inl, inr, ⊎_elim, lt_of_le_of_lt, add-zero, add-suc, mod-lt, eq-zero-or-pos, eq-or-lt_of_le, mul-zero, zero-add, mul-one, arith, le-ltb, lt-ltb, ne_eqb}
 use native.Mathlib.Nat.{zero-div}
 use lib.Bits.{bit_and, and_le_r}
-use Rattle.index.specs.Layout.{resOf, base_of, digit, first_of, isPentagonal}
-use Rattle.index.specs.Check.{someOther}
+use Rattle.index.specs.Layout.{res_of, base_of, digit, first_of, is_pentagonal}
+use Rattle.index.specs.Check.{some_other}
 use Rattle.index.specs.Words.{Each, low}
 use Rattle.index.proofs.Runs.{run, run_zero, run_suc}
 use Rattle.index.proofs.View.{low_split}
@@ -15,8 +15,8 @@ abbrev pub high : ℕ → ℕ
 high d = d / 2 * 2
 
 -- the words of the two parts
-pub lows : (n b k : ℕ) → k ≡ cond (isPentagonal b) 1 0 → Each (λ d. cond (isPentagonal b) (low d) 0) n (bit_and n 5026338869833 * k)
-lows n b k e = go (isPentagonal b) e
+pub lows : (n b k : ℕ) → k ≡ cond (is_pentagonal b) 1 0 → Each (λ d. cond (is_pentagonal b) (low d) 0) n (bit_and n 5026338869833 * k)
+lows n b k e = go (is_pentagonal b) e
   where
     go : (t : Bool) → k ≡ cond t 1 0 → Each (λ d. cond t (low d) 0) n (bit_and n 5026338869833 * k)
     go true e =
@@ -83,13 +83,13 @@ past_sevens n k rest (suc i) h =
     (eq-zero-or-pos (first_of n (k + i))))
 
 -- the last test of the check, where the unused digits are 7
-pub first_is_one : (n b lo hi : ℕ) → b ≡ base_of n → Each (λ d. cond (isPentagonal b) (low d) 0) n lo → Each high n hi → someOther n ≡ false →
-    ltb hi lo ≡ isPentagonal (base_of n) && eqb (first_of n (resOf n)) 1
-first_is_one n b lo hi eb p q g = go (isPentagonal (base_of n)) (rw eb at p)
+pub first_is_one : (n b lo hi : ℕ) → b ≡ base_of n → Each (λ d. cond (is_pentagonal b) (low d) 0) n lo → Each high n hi → some_other n ≡ false →
+    ltb hi lo ≡ is_pentagonal (base_of n) && eqb (first_of n (res_of n)) 1
+first_is_one n b lo hi eb p q g = go (is_pentagonal (base_of n)) (rw eb at p)
   where
-    go : (t : Bool) → Each (λ d. cond t (low d) 0) n lo → ltb hi lo ≡ t && eqb (first_of n (resOf n)) 1
+    go : (t : Bool) → Each (λ d. cond t (low d) 0) n lo → ltb hi lo ≡ t && eqb (first_of n (res_of n)) 1
     go true p =
-        let e : resOf n + (15 - resOf n) ≡ 15 = omega arith in
+        let e : res_of n + (15 - res_of n) ≡ 15 = omega arith in
         let w = rw (all_run lo p.short, all_run hi q.short) at (lies n lo hi p q 15 (omega arith)) in
-        decided lo hi (first_of n 15) w ∙ (rw e at (past_sevens n (resOf n) (sevens_past n g) (15 - resOf n) (omega arith)))
+        decided lo hi (first_of n 15) w ∙ (rw e at (past_sevens n (res_of n) (sevens_past n g) (15 - res_of n) (omega arith)))
     go false p = le-ltb hi lo (omega (arith, all_run lo p.short, no_bits n lo p 15 (omega arith)))

@@ -1,7 +1,7 @@
 -- What is packed of a base cell and digits 0 to 6 has them, also where refusal 7 names it. Assumes nothing.
 use Rattle.std.proofs.Common.{◌≡◌, ℕ, ◌+◌, ◌-◌, ◌*◌, ◌/◌, ◌%◌, ◌^◌, ◌<◌, ◌≤◌, List, length, sym, ap, ◌∙◌, true≢false, mod-lt, arith}
 use Rattle.plane.specs.Strings.{Digits}
-use Rattle.index.specs.Layout.{digit, resOf, base_of, isPentagonal, among}
+use Rattle.index.specs.Layout.{digit, res_of, base_of, is_pentagonal, among}
 use Rattle.index.specs.View.{used, pack, Fit}
 use Rattle.index.proofs.First.{digit_low}
 use Rattle.index.proofs.Sum.{sum, sum_base, sum_res}
@@ -16,7 +16,7 @@ digit_same n y s e g l =
 module _ (b : ℕ) (ds : List ℕ) (hb : b ≤ 127) (short : length ds ≤ 15) (digits : Digits ds) where
   -- in base cell 0, which is no pentagon's
   pub bare : Fit 0 ds
-  unfolding isPentagonal among
+  unfolding is_pentagonal among
   bare = record { base = omega arith; short = short; digits = digits; kept = λ q e. true≢false (sym q) }
 
   abbrev p : ℕ
@@ -61,8 +61,8 @@ module _ (b : ℕ) (ds : List ℕ) (hb : b ≤ 127) (short : length ds ≤ 15) (
       at45 : (k l : ℕ) → l < 2 ^ 45 → (2 ^ 59 + k * 2 ^ 52 + b * 2 ^ 45 + l) / 2 ^ 45 ≡ 2 ^ 14 + k * 2 ^ 7 + b
       at45 k l h = omega arith
 
-  pub loose_res : resOf (pack b ds) ≡ length ds
-  loose_res = ap resOf fields ∙ sum_res (length ds) b (p % 2 ^ 45) short hb l_lt
+  pub loose_res : res_of (pack b ds) ≡ length ds
+  loose_res = ap res_of fields ∙ sum_res (length ds) b (p % 2 ^ 45) short hb l_lt
 
   pub loose_base : base_of (pack b ds) ≡ b
   loose_base = ap base_of fields ∙ sum_base (length ds) b (p % 2 ^ 45) short hb l_lt

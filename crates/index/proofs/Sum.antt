@@ -2,21 +2,21 @@
 -- omega stops at several of large numerals together. Assumes nothing.
 use Rattle.std.proofs.Common.{◌≡◌, ℕ, ◌+◌, ◌*◌, ◌/◌, ◌%◌, ◌^◌, ◌<◌, ◌≤◌, sym, ap, ◌∙◌, div-add-mod', arith}
 use native.Mathlib.Nat.{div-div-eq-div-mul}
-use Rattle.index.specs.Layout.{top_bit, mode_of, reservedOf, resOf, base_of}
+use Rattle.index.specs.Layout.{top_bit, mode_of, reserved_of, res_of, base_of}
 
 linear : (n a b c d x y l : ℕ) → n ≡ a * 2 ^ 45 + l → a ≡ b * 128 + x → b ≡ c * 16 + y → c ≡ d * 8 → d ≡ 1 → n ≡ 2 ^ 59 + y * 2 ^ 52 + x * 2 ^ 45 + l
 linear n a b c d x y l p q r s t = omega arith
 
-pub sum : (n : ℕ) → n < 2 ^ 64 → top_bit n ≡ 0 → mode_of n ≡ 1 → reservedOf n ≡ 0 → n ≡ 2 ^ 59 + resOf n * 2 ^ 52 + base_of n * 2 ^ 45 + n % 2 ^ 45
+pub sum : (n : ℕ) → n < 2 ^ 64 → top_bit n ≡ 0 → mode_of n ≡ 1 → reserved_of n ≡ 0 → n ≡ 2 ^ 59 + res_of n * 2 ^ 52 + base_of n * 2 ^ 45 + n % 2 ^ 45
 sum n h t m v =
     let b : n / 2 ^ 45 / 128 ≡ n / 2 ^ 52 = div-div-eq-div-mul n (2 ^ 45) 128 in
     let c : n / 2 ^ 52 / 16 ≡ n / 2 ^ 56 = div-div-eq-div-mul n (2 ^ 52) 16 in
     let d : n / 2 ^ 56 / 8 ≡ n / 2 ^ 59 = div-div-eq-div-mul n (2 ^ 56) 8 in
     let e : n / 2 ^ 59 / 16 ≡ n / 2 ^ 63 = div-div-eq-div-mul n (2 ^ 59) 16 in
-    linear n (n / 2 ^ 45) (n / 2 ^ 52) (n / 2 ^ 56) (n / 2 ^ 59) (base_of n) (resOf n) (n % 2 ^ 45)
+    linear n (n / 2 ^ 45) (n / 2 ^ 52) (n / 2 ^ 56) (n / 2 ^ 59) (base_of n) (res_of n) (n % 2 ^ 45)
     (sym (div-add-mod' n (2 ^ 45)))
     (sym (div-add-mod' (n / 2 ^ 45) 128) ∙ ap (λ (z : ℕ). z * 128 + base_of n) b)
-    (sym (div-add-mod' (n / 2 ^ 52) 16) ∙ ap (λ (z : ℕ). z * 16 + resOf n) c)
+    (sym (div-add-mod' (n / 2 ^ 52) 16) ∙ ap (λ (z : ℕ). z * 16 + res_of n) c)
     (step8 (n / 2 ^ 56) (n / 2 ^ 59) d v)
     (step16 (n / 2 ^ 59) (n / 2 ^ 63) e m t (small n h))
   where
@@ -49,13 +49,13 @@ module _ (k b l : ℕ) (hk : k ≤ 15) (hb : b ≤ 127) (hl : l < 2 ^ 45) where
   pub sum_base : base_of n ≡ b
   sum_base = rw at45 (omega arith)
 
-  pub sum_res : resOf n ≡ k
+  pub sum_res : res_of n ≡ k
   sum_res = rw at52 (omega arith)
 
   pub sum_low : n % 2 ^ 45 ≡ l
   sum_low = omega arith
 
-  pub sum_reserved : reservedOf n ≡ 0
+  pub sum_reserved : reserved_of n ≡ 0
   sum_reserved = rw at56
 
   pub sum_mode : mode_of n ≡ 1

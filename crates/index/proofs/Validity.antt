@@ -1,9 +1,9 @@
 -- A raw number is answered by the check exactly where it is valid. Assumes nothing.
 use Rattle.std.proofs.Common.{◌≡◌, ℕ, ◌+◌, ◌-◌, ◌<◌, ◌≤◌, Bool, true, false, not, ◌&&◌, eqb, sym, refl, ap, subst, true≢false, mod-lt, arith, ltb-false, le-ltb, eq-eqb, ne_eqb, eqb-true}
 use borrow.Author.Tests.{eqb-false, not-false}
-use Rattle.index.specs.Layout.{top_bit, resOf, base_of, digit, Valid}
+use Rattle.index.specs.Layout.{top_bit, res_of, base_of, digit, Valid}
 use Rattle.index.specs.Refusals.{Clear, answered}
-use Rattle.index.specs.Check.{someOther, cellRules, checkOf}
+use Rattle.index.specs.Check.{some_other, cell_rules, check_of}
 use Rattle.index.proofs.Rules.{clear_answered, answered_clear}
 use Rattle.index.proofs.Some.{some_off, off_some}
 
@@ -15,12 +15,12 @@ off_and : (a : Bool) (x : ℕ) → (a ≡ true → x ≡ 1 → ⊥) → a && eqb
 off_and true x h = ne_eqb x 1 (h refl)
 off_and false x h = refl
 
-pub sevens_past : (n : ℕ) → someOther n ≡ false → (r : ℕ) → resOf n < r → r ≤ 15 → digit n r ≡ 7
+pub sevens_past : (n : ℕ) → some_other n ≡ false → (r : ℕ) → res_of n < r → r ≤ 15 → digit n r ≡ 7
 sevens_past n h r g l =
-    let q : resOf n + (r - resOf n) ≡ r = omega arith in
-    subst (λ (x : ℕ). digit n x ≡ 7) q (eqb-true _ _ (not-false _ (some_off _ (15 - resOf n) (r - resOf n) h (omega arith) (omega arith))))
+    let q : res_of n + (r - res_of n) ≡ r = omega arith in
+    subst (λ (x : ℕ). digit n x ≡ 7) q (eqb-true _ _ (not-false _ (some_off _ (15 - res_of n) (r - res_of n) h (omega arith) (omega arith))))
 
-pub clear_valid : (n : ℕ) → Clear (cellRules n) → Valid n
+pub clear_valid : (n : ℕ) → Clear (cell_rules n) → Valid n
 clear_valid n c =
     let t = eqb-false (top_bit n) 1 c.0 in
     let b = ltb-false 121 (base_of n) c.1.1.1.0 in
@@ -29,12 +29,12 @@ clear_valid n c =
       mode = eqb-true _ _ (not-false _ c.1.0);
       reserved = eqb-true _ _ (not-false _ c.1.1.0);
       base = b;
-      small = λ r g l. let e = eqb-false (digit n r) 7 (some_off _ (resOf n) r c.1.1.1.1.0 g l) in let m : digit n r < 8 = mod-lt _ (omega arith) in omega arith;
+      small = λ r g l. let e = eqb-false (digit n r) 7 (some_off _ (res_of n) r c.1.1.1.1.0 g l) in let m : digit n r < 8 = mod-lt _ (omega arith) in omega arith;
       rest = sevens_past n c.1.1.1.1.1.0;
       kept = and_off _ _ c.1.1.1.1.1.1.0;
     }
 
-pub valid_clear : (n : ℕ) → Valid n → Clear (cellRules n)
+pub valid_clear : (n : ℕ) → Valid n → Clear (cell_rules n)
 valid_clear n v =
     let t = v.top in (
       ne_eqb (top_bit n) 1 (λ q. omega arith),
@@ -45,9 +45,9 @@ valid_clear n v =
           (
             le-ltb _ _ v.base,
             (
-              off_some _ (resOf n) (λ r g l. ne_eqb (digit n r) 7 (λ q. let s = v.small r g l in omega arith)),
+              off_some _ (res_of n) (λ r g l. ne_eqb (digit n r) 7 (λ q. let s = v.small r g l in omega arith)),
               (
-                off_some _ (15 - resOf n) (λ r g l. ap not (eq-eqb _ _ (v.rest (resOf n + r) (omega arith) (omega arith)))),
+                off_some _ (15 - res_of n) (λ r g l. ap not (eq-eqb _ _ (v.rest (res_of n + r) (omega arith) (omega arith)))),
                 (off_and _ _ v.kept, tt),
               ),
             ),
@@ -56,8 +56,8 @@ valid_clear n v =
       ),
     )
 
-pub accepted_valid : (n : ℕ) → checkOf n ≡ answered n → Valid n
-accepted_valid n e = clear_valid n (answered_clear (cellRules n) n n e)
+pub accepted_valid : (n : ℕ) → check_of n ≡ answered n → Valid n
+accepted_valid n e = clear_valid n (answered_clear (cell_rules n) n n e)
 
-pub valid_accepted : (n : ℕ) → Valid n → checkOf n ≡ answered n
-valid_accepted n v = clear_answered (cellRules n) n (valid_clear n v)
+pub valid_accepted : (n : ℕ) → Valid n → check_of n ≡ answered n
+valid_accepted n v = clear_answered (cell_rules n) n (valid_clear n v)

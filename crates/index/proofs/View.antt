@@ -4,7 +4,7 @@ use Rattle.std.proofs.Common.{◌≡◌, ℕ, zero, suc, ◌+◌, ◌-◌, ◌*�
 use native.Mathlib.Nat.{suc_inj, le_step}
 use lib.Arith.{mod-mul, digits_div, digits_mod, digits_lt}
 use Rattle.plane.specs.Strings.{Digits}
-use Rattle.index.specs.Layout.{digit, top_bit, mode_of, reservedOf, resOf, base_of, first_of, Valid}
+use Rattle.index.specs.Layout.{digit, top_bit, mode_of, reserved_of, res_of, base_of, first_of, Valid}
 use Rattle.index.specs.View.{used, octal, pack, first, Fit}
 use Rattle.index.proofs.Sum.{sum, sum_base, sum_res, sum_low, sum_reserved, sum_mode, sum_top, sum_fits}
 use Rattle.index.proofs.Runs.{place, eights_pos, run, octal_used, length_used, sevens, sevens_back}
@@ -46,26 +46,26 @@ first_used n zero = refl
 first_used n (suc k) = rw (first_used n k)
 
 -- a number with the right fields and unused digits, whatever its used digits
-pub packed_of : (n : ℕ) → n < 2 ^ 64 → top_bit n ≡ 0 → mode_of n ≡ 1 → reservedOf n ≡ 0 → ((r : ℕ) → resOf n < r → r ≤ 15 → digit n r ≡ 7) → pack (base_of n) (used n (resOf n)) ≡ n
+pub packed_of : (n : ℕ) → n < 2 ^ 64 → top_bit n ≡ 0 → mode_of n ≡ 1 → reserved_of n ≡ 0 → ((r : ℕ) → res_of n < r → r ≤ 15 → digit n r ≡ 7) → pack (base_of n) (used n (res_of n)) ≡ n
 unfolding pack
 packed_of n h t m v q =
-    let l : resOf n ≤ 15 = omega arith in
-    let s = low_split n (resOf n) l in
-    let o = sevens n (resOf n) (15 - resOf n) (omega arith) (λ j g e. q j g (omega arith)) in
-    let e : run n 0 (resOf n) * 8 ^ (15 - resOf n) + (8 ^ (15 - resOf n) - 1) ≡ n % 2 ^ 45 =
-    ap (λ (x : ℕ). run n 0 (resOf n) * 8 ^ (15 - resOf n) + x) (sym o) ∙ sym s in
-    rw (length_used n (resOf n), octal_used n (resOf n) l, e) (sym (sum n h t m v))
+    let l : res_of n ≤ 15 = omega arith in
+    let s = low_split n (res_of n) l in
+    let o = sevens n (res_of n) (15 - res_of n) (omega arith) (λ j g e. q j g (omega arith)) in
+    let e : run n 0 (res_of n) * 8 ^ (15 - res_of n) + (8 ^ (15 - res_of n) - 1) ≡ n % 2 ^ 45 =
+    ap (λ (x : ℕ). run n 0 (res_of n) * 8 ^ (15 - res_of n) + x) (sym o) ∙ sym s in
+    rw (length_used n (res_of n), octal_used n (res_of n) l, e) (sym (sum n h t m v))
 
 -- a valid number is its base cell and its used digits, packed
-pub packed : (n : ℕ) → n < 2 ^ 64 → Valid n → pack (base_of n) (used n (resOf n)) ≡ n
+pub packed : (n : ℕ) → n < 2 ^ 64 → Valid n → pack (base_of n) (used n (res_of n)) ≡ n
 packed n h v = packed_of n h v.top v.mode v.reserved v.rest
 
-pub fit : (n : ℕ) → Valid n → Fit (base_of n) (used n (resOf n))
+pub fit : (n : ℕ) → Valid n → Fit (base_of n) (used n (res_of n))
 fit n v =
     record {
       base = v.base;
       short = rw length_used (omega arith);
-      digits = small_used n (resOf n) v.small;
+      digits = small_used n (res_of n) v.small;
       kept = rw first_used v.kept;
     }
 
@@ -104,7 +104,7 @@ module _ (b : ℕ) (ds : List ℕ) (o : Fit b ds) where
   base_fits : b ≤ 127
   base_fits = let h = o.base in omega arith
 
-  pub pack_res : resOf (pack b ds) ≡ length ds
+  pub pack_res : res_of (pack b ds) ≡ length ds
   unfolding pack
   pack_res = sum_res _ _ _ o.short base_fits low_fits
 
@@ -132,7 +132,7 @@ module _ (b : ℕ) (ds : List ℕ) (o : Fit b ds) where
   pub pack_used : used (pack b ds) (length ds) ≡ ds
   pack_used = same_digits (pack b ds) (length ds) ds refl o.digits (octal_used (pack b ds) (length ds) o.short ∙ runs.0)
 
-  tops : (top_bit (pack b ds) ≡ 0) × (mode_of (pack b ds) ≡ 1) × (reservedOf (pack b ds) ≡ 0)
+  tops : (top_bit (pack b ds) ≡ 0) × (mode_of (pack b ds) ≡ 1) × (reserved_of (pack b ds) ≡ 0)
   unfolding pack
   tops = (sum_top _ _ _ o.short base_fits low_fits, sum_mode _ _ _ o.short base_fits low_fits, sum_reserved _ _ _ o.short base_fits low_fits)
 

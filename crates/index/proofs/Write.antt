@@ -6,8 +6,8 @@ use Rattle.index.specs.Layout.{digit}
 use Rattle.index.specs.Written.{Written}
 use Rattle.index.proofs.Runs.{place, eights_pos}
 
-abbrev pub setDigit : ℕ → ℕ → ℕ → ℕ
-setDigit n r d = n - digit n r * 8 ^ (15 - r) + d * 8 ^ (15 - r)
+abbrev pub set_digit : ℕ → ℕ → ℕ → ℕ
+set_digit n r d = n - digit n r * 8 ^ (15 - r) + d * 8 ^ (15 - r)
 
 -- a place finer than 8 ^ e * 8 * q sees only what is below it
 fine : (a l e q : ℕ) → 1 ≤ q → (a * (8 ^ e * 8 * q) + l) / q % 8 ≡ l / q % 8
@@ -50,40 +50,40 @@ module _ (n r d : ℕ) (hd : d < 8) where
       let a : n / 8 ^ (15 - r) ≡ n / 8 ^ (15 - r) / 8 * 8 + digit n r = rw digit8 (sym (div-add-mod' (n / 8 ^ (15 - r)) 8)) in
       sym (rw a at (div-add-mod' n (8 ^ (15 - r))))
 
-  whole_set : setDigit n r d ≡ (h * 8 + d) * p + l
+  whole_set : set_digit n r d ≡ (h * 8 + d) * p + l
   unfolding p
   whole_set = omega (arith, whole)
 
-  quotient : setDigit n r d / 8 ^ (15 - r) ≡ h * 8 + d
+  quotient : set_digit n r d / 8 ^ (15 - r) ≡ h * 8 + d
   unfolding p
   quotient = rw whole_set (digits_div (h * 8 + d) l_lt)
 
-  above : setDigit n r d / 8 ^ (15 - r) / 8 ≡ n / 8 ^ (15 - r) / 8
+  above : set_digit n r d / 8 ^ (15 - r) / 8 ≡ n / 8 ^ (15 - r) / 8
   unfolding h
   above = rw quotient (omega arith)
 
-  set_upper : 1 ≤ r → r ≤ 15 → setDigit n r d / 2 ^ 45 ≡ n / 2 ^ 45
+  set_upper : 1 ≤ r → r ≤ 15 → set_digit n r d / 2 ^ 45 ≡ n / 2 ^ 45
   set_upper g u =
       let e : 8 ^ 15 ≡ 8 ^ (15 - (15 - r) - 1) * 8 * 8 ^ (15 - r) = places (15 - r) 15 (omega arith) in
       rw e (coarse _ _ _ ∙ ap (λ (x : ℕ). x / 8 ^ (15 - (15 - r) - 1)) above ∙ sym (coarse _ _ _))
 
-  set_there : digit (setDigit n r d) r ≡ d
-  set_there = rw (digit8 (setDigit n r d) r, quotient) (omega arith)
+  set_there : digit (set_digit n r d) r ≡ d
+  set_there = rw (digit8 (set_digit n r d) r, quotient) (omega arith)
 
-  set_coarser : (s : ℕ) → s < r → r ≤ 15 → digit (setDigit n r d) s ≡ digit n s
+  set_coarser : (s : ℕ) → s < r → r ≤ 15 → digit (set_digit n r d) s ≡ digit n s
   set_coarser s t u =
       let e = places (15 - r) (15 - s) (omega arith) in
-      rw (digit8 (setDigit n r d) s, digit8 n s, e) (ap (λ (x : ℕ). x % 8) (coarse _ _ _ ∙ ap (λ (x : ℕ). x / 8 ^ (15 - s - (15 - r) - 1)) above ∙ sym (coarse _ _ _)))
+      rw (digit8 (set_digit n r d) s, digit8 n s, e) (ap (λ (x : ℕ). x % 8) (coarse _ _ _ ∙ ap (λ (x : ℕ). x / 8 ^ (15 - s - (15 - r) - 1)) above ∙ sym (coarse _ _ _)))
 
-  set_finer : (s : ℕ) → r < s → s ≤ 15 → digit (setDigit n r d) s ≡ digit n s
+  set_finer : (s : ℕ) → r < s → s ≤ 15 → digit (set_digit n r d) s ≡ digit n s
   unfolding p
   set_finer s t u =
       let q : ℕ = 8 ^ (15 - s) in
       let e : 8 ^ (15 - r) ≡ 8 ^ (15 - r - (15 - s) - 1) * 8 * q = places (15 - s) (15 - r) (omega arith) in
       let f : (a : ℕ) → (a * 8 ^ (15 - r) + l) / q % 8 ≡ l / q % 8 = λ a. rw e (fine a l (15 - r - (15 - s) - 1) q (eights_pos (15 - s))) in
-      rw (digit8 (setDigit n r d) s, digit8 n s) (ap (λ (x : ℕ). x / q % 8) whole_set ∙ f (h * 8 + d) ∙ sym (ap (λ (x : ℕ). x / q % 8) whole ∙ f (h * 8 + digit n r)))
+      rw (digit8 (set_digit n r d) s, digit8 n s) (ap (λ (x : ℕ). x / q % 8) whole_set ∙ f (h * 8 + d) ∙ sym (ap (λ (x : ℕ). x / q % 8) whole ∙ f (h * 8 + digit n r)))
 
-  pub set_written : 1 ≤ r → r ≤ 15 → Written n r d (setDigit n r d)
+  pub set_written : 1 ≤ r → r ≤ 15 → Written n r d (set_digit n r d)
   set_written g u =
       record {
         upper = set_upper g u;
@@ -98,8 +98,8 @@ module _ (n r d : ℕ) (hd : d < 8) where
   unfolding p
   set_room = omega (arith, whole)
 
-  pub set_fits : 1 ≤ r → r ≤ 15 → n < 2 ^ 64 → setDigit n r d < 2 ^ 64
-  set_fits g u f = bound (setDigit n r d) n (set_upper g u) f
+  pub set_fits : 1 ≤ r → r ≤ 15 → n < 2 ^ 64 → set_digit n r d < 2 ^ 64
+  set_fits g u f = bound (set_digit n r d) n (set_upper g u) f
     where
       bound : (a b : ℕ) → a / 2 ^ 45 ≡ b / 2 ^ 45 → b < 2 ^ 64 → a < 2 ^ 64
       bound a b e h = omega arith

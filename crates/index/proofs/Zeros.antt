@@ -1,7 +1,7 @@
 -- A valid number's digit bits are 0 and then all ones exactly where its used digits are 0. Assumes nothing.
 use Rattle.std.proofs.Common.{◌≡◌, ℕ, zero, suc, ◌+◌, ◌-◌, ◌*◌, ◌/◌, ◌%◌, ◌^◌, ◌<◌, ◌≤◌, eqb, ap, ◌∙◌, ⊎_elim, mul-le-mul_right, eq-zero-or-pos, zero-add, arith, eq-eqb, ne_eqb}
 use Rattle.plane.proofs.Every.{at_eq}
-use Rattle.index.specs.Layout.{digit, first_of, resOf, Valid}
+use Rattle.index.specs.Layout.{digit, first_of, res_of, Valid}
 use Rattle.index.proofs.Runs.{run, run_zero, run_suc, sevens, eights_pos}
 use Rattle.index.proofs.View.{low_split}
 
@@ -27,9 +27,9 @@ zero_eq y s x p e =
     (λ (l : 0 < y). let k : 1 * s ≤ y * s = mul-le-mul_right s l in rw (ne_eqb y 0 (omega arith), ne_eqb x (s - 1) (omega arith)))
     (eq-zero-or-pos y)
 
-pub all_zero : (n r : ℕ) → Valid n → r ≡ resOf n → eqb (n % 2 ^ 45) (35184372088831 / 2 ^ (3 * r)) ≡ eqb (first_of n (resOf n)) 0
+pub all_zero : (n r : ℕ) → Valid n → r ≡ res_of n → eqb (n % 2 ^ 45) (35184372088831 / 2 ^ (3 * r)) ≡ eqb (first_of n (res_of n)) 0
 all_zero n r v e =
-    let l : resOf n ≤ 15 = omega arith in
-    let o = sevens n (resOf n) (15 - resOf n) (omega arith) (λ j g h. v.rest j g (omega arith)) in
-    let s : n % 2 ^ 45 ≡ run n 0 (resOf n) * 8 ^ (15 - resOf n) + (8 ^ (15 - resOf n) - 1) = low_split n (resOf n) l ∙ ap (λ (x : ℕ). run n 0 (resOf n) * 8 ^ (15 - resOf n) + x) o in
-    rw (e, all_ones (resOf n) l, first_run n (resOf n) l) (zero_eq _ _ _ (eights_pos (15 - resOf n)) s)
+    let l : res_of n ≤ 15 = omega arith in
+    let o = sevens n (res_of n) (15 - res_of n) (omega arith) (λ j g h. v.rest j g (omega arith)) in
+    let s : n % 2 ^ 45 ≡ run n 0 (res_of n) * 8 ^ (15 - res_of n) + (8 ^ (15 - res_of n) - 1) = low_split n (res_of n) l ∙ ap (λ (x : ℕ). run n 0 (res_of n) * 8 ^ (15 - res_of n) + x) o in
+    rw (e, all_ones (res_of n) l, first_run n (res_of n) l) (zero_eq _ _ _ (eights_pos (15 - res_of n)) s)

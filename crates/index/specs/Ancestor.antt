@@ -3,5 +3,5 @@ use Rattle.std.specs.Prelude.{ℕ}
 use Rattle.index.specs.Layout.{base_of}
 use Rattle.index.specs.View.{used, pack}
 
-unfoldable pub ancestorOf : ℕ → ℕ → ℕ
-ancestorOf n t = pack (base_of n) (used n t)
+unfoldable pub ancestor_of : ℕ → ℕ → ℕ
+ancestor_of n t = pack (base_of n) (used n t)

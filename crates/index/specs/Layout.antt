@@ -10,12 +10,12 @@ abbrev pub mode_of : ℕ → ℕ
 mode_of n = n / 2 ^ 59 % 16
 
 -- bits 56 to 58
-abbrev pub reservedOf : ℕ → ℕ
-reservedOf n = n / 2 ^ 56 % 8
+abbrev pub reserved_of : ℕ → ℕ
+reserved_of n = n / 2 ^ 56 % 8
 
 -- bits 52 to 55
-abbrev pub resOf : ℕ → ℕ
-resOf n = n / 2 ^ 52 % 16
+abbrev pub res_of : ℕ → ℕ
+res_of n = n / 2 ^ 52 % 16
 
 -- bits 45 to 51
 abbrev pub base_of : ℕ → ℕ
@@ -35,15 +35,15 @@ among b [] = false
 among b (x ∷ xs) = b == x || among b xs
 
 -- the pentagon base cells
-unfoldable pub isPentagonal : ℕ → Bool
-isPentagonal b = among b (4 ∷ 14 ∷ 24 ∷ 38 ∷ 49 ∷ 58 ∷ 63 ∷ 72 ∷ 83 ∷ 97 ∷ 107 ∷ 117 ∷ [])
+unfoldable pub is_pentagonal : ℕ → Bool
+is_pentagonal b = among b (4 ∷ 14 ∷ 24 ∷ 38 ∷ 49 ∷ 58 ∷ 63 ∷ 72 ∷ 83 ∷ 97 ∷ 107 ∷ 117 ∷ [])
 
 -- a cell: digits 1 to its resolution are 0 to 6, the others are 7, and in a pentagon base cell the first non-zero used digit is not 1
 pub record Valid (n : ℕ) : Type 0 where
   pub top : top_bit n ≡ 0
   pub mode : mode_of n ≡ 1
-  pub reserved : reservedOf n ≡ 0
+  pub reserved : reserved_of n ≡ 0
   pub base : base_of n ≤ 121
-  pub small : (r : ℕ) → 1 ≤ r → r ≤ resOf n → digit n r ≤ 6
-  pub rest : (r : ℕ) → resOf n < r → r ≤ 15 → digit n r ≡ 7
-  pub kept : isPentagonal (base_of n) ≡ true → first_of n (resOf n) ≢ 1
+  pub small : (r : ℕ) → 1 ≤ r → r ≤ res_of n → digit n r ≤ 6
+  pub rest : (r : ℕ) → res_of n < r → r ≤ 15 → digit n r ≡ 7
+  pub kept : is_pentagonal (base_of n) ≡ true → first_of n (res_of n) ≢ 1

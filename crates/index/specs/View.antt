@@ -2,7 +2,7 @@
 -- so that every recursion takes the finest digit off.
 use Rattle.std.specs.Prelude.{◌≡◌, ℕ, zero, suc, ◌+◌, ◌-◌, ◌*◌, ◌^◌, ◌≤◌, true, cond, List, [], ◌∷◌, length, ◌==◌, ◌≢◌}
 use Rattle.plane.specs.Strings.{Digits}
-use Rattle.index.specs.Layout.{digit, isPentagonal}
+use Rattle.index.specs.Layout.{digit, is_pentagonal}
 
 -- the digits 1 to k of n
 unfoldable pub used : ℕ → ℕ → List ℕ
@@ -28,4 +28,4 @@ pub record Fit (b : ℕ) (ds : List ℕ) : Type 0 where
   pub base : b ≤ 121
   pub short : length ds ≤ 15
   pub digits : Digits ds
-  pub kept : isPentagonal b ≡ true → first ds ≢ 1
+  pub kept : is_pentagonal b ≡ true → first ds ≢ 1

@@ -1,6 +1,6 @@
 // Fields of any 64 bits, and the writing of a digit.
 ghost use Rattle.std.specs.Prelude.{◌≡◌, ◌≤◌, if◌then◌else◌};
-ghost use Rattle.index.specs.Layout.{top_bit, reservedOf, resOf, base_of, digit, first_of};
+ghost use Rattle.index.specs.Layout.{top_bit, reserved_of, res_of, base_of, digit, first_of};
 ghost use Rattle.index.specs.Written.{Written};
 
 use crate::inside::place;
@@ -35,13 +35,13 @@ pub(crate) fn get_top(n: u64) -> u64
 }
 
 pub(crate) fn get_reserved(n: u64) -> u64
-    ensures { result ≡ reservedOf n }
+    ensures { result ≡ reserved_of n }
 {
     (n >> 56) % 8
 }
 
 pub(crate) fn get_resolution(n: u64) -> Resolution
-    ensures { result.0 ≡ resOf n }
+    ensures { result.0 ≡ res_of n }
 {
     Resolution((n >> 52) % 16)
 }
@@ -61,7 +61,7 @@ pub(crate) fn get_direction(n: u64, r: Resolution) -> u64
 
 // The first used digit that is not 0, or 0. After digits that are all 0 comes a 7 that is not used: the place is capped at the resolution.
 pub(crate) fn first_axe(n: u64) -> u64
-    ensures { result ≡ first_of n (resOf n) }
+    ensures { result ≡ first_of n (res_of n) }
 {
     let own = get_resolution(n);
     let k = own.0;

@@ -1,6 +1,6 @@
 // What our own crates need of a cell. No entry stands here: this module is public only because it crosses our crates' border.
 ghost use Rattle.std.specs.Prelude.{◌≡◌, ◌-◌, ◌^◌, ◌≤◌, ◌&&◌, ◌==◌};
-ghost use Rattle.index.specs.Layout.{Valid, resOf, base_of, digit as digitAt, first_of, isPentagonal};
+ghost use Rattle.index.specs.Layout.{Valid, res_of, base_of, digit as digitAt, first_of, is_pentagonal};
 
 pub use crate::bits::{DIGITS_END, ONE_RESOLUTION, ONES, sel, set_direction};
 use crate::bits::{SEVENS, first_axe, get_base_cell, get_direction, get_resolution};
@@ -49,7 +49,7 @@ pub fn number_of(c: Cell) -> u64
 }
 
 pub fn resolution_of(c: Cell) -> Resolution
-    ensures { result.0 ≡ resOf c.0 }
+    ensures { result.0 ≡ res_of c.0 }
 {
     get_resolution(c.0)
 }
@@ -73,7 +73,7 @@ pub fn place(r: Resolution) -> u64
 // A pentagon's used digits are 0 and the unused 7.
 pub fn is_pentagon(c: Cell) -> bool
     requires { Valid c.0 }
-    ensures { result ≡ (isPentagonal (base_of c.0) && first_of c.0 (resOf c.0) == 0) }
+    ensures { result ≡ (is_pentagonal (base_of c.0) && first_of c.0 (res_of c.0) == 0) }
 {
     let n = c.0;
     let own = get_resolution(n);
@@ -88,7 +88,7 @@ pub fn resolution_number(r: Resolution) -> u64
 
 // The first used digit that is not 0 of any number, or 0.
 pub fn first_direction(n: u64) -> u64
-    ensures { result ≡ first_of n (resOf n) }
+    ensures { result ≡ first_of n (res_of n) }
 {
     first_axe(n)
 }
@@ -96,7 +96,7 @@ pub fn first_direction(n: u64) -> u64
 // Whether a cell lies in a pentagon base cell.
 pub fn in_pentagon(c: Cell) -> bool
     requires { Valid c.0 }
-    ensures { result ≡ isPentagonal (base_of c.0) }
+    ensures { result ≡ is_pentagonal (base_of c.0) }
 {
     crate::base_cell::is_pentagon(get_base_cell(c.0))
 }

@@ -1,15 +1,15 @@
 // The ancestor of a cell.
 ghost use Rattle.std.specs.Prelude.{◌≡◌, ◌≤◌};
-ghost use Rattle.index.specs.Layout.{Valid, resOf};
-ghost use Rattle.index.specs.Ancestor.{ancestorOf};
+ghost use Rattle.index.specs.Layout.{Valid, res_of};
+ghost use Rattle.index.specs.Ancestor.{ancestor_of};
 
 use crate::bits::{ONE_RESOLUTION, get_resolution};
 use crate::inside::place;
 use crate::{Cell, Resolution};
 
 pub fn ancestor(c: Cell, t: Resolution) -> Cell
-    requires { Valid c.0 × (t.0 ≤ resOf c.0) }
-    ensures { result.0 ≡ ancestorOf c.0 t.0 }
+    requires { Valid c.0 × (t.0 ≤ res_of c.0) }
+    ensures { result.0 ≡ ancestor_of c.0 t.0 }
 {
     let n = c.0;
     let own = get_resolution(n);

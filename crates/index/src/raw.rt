@@ -1,8 +1,8 @@
 // The check of a raw number: the one way from a number to a cell.
 ghost use Rattle.std.specs.Prelude.{◌≡◌, ◌-◌, ◌≤◌, true, if◌then◌else◌, nat_eq};
-ghost use Rattle.index.specs.Layout.{isPentagonal};
+ghost use Rattle.index.specs.Layout.{is_pentagonal};
 ghost use Rattle.index.specs.Refusals.{answered, refused};
-ghost use Rattle.index.specs.Check.{checkOf, told};
+ghost use Rattle.index.specs.Check.{check_of, told};
 ghost use Rattle.index.specs.Words.{Each, mark, ones, low};
 
 use crate::base_cell::pentagon_bit;
@@ -34,7 +34,7 @@ fn unused(r: Resolution) -> u64
 // The low bits of the digits, in pentagon base cells; elsewhere 0. They exceed the digits' other bits exactly if the first digit that is not 0 is 1.
 fn low_bits(n: u64, base: u64) -> u64
     requires { base ≤ 127 }
-    ensures { Each (λ d. (if isPentagonal base then low d else 0)) n result }
+    ensures { Each (λ d. (if is_pentagonal base then low d else 0)) n result }
 {
     let bit = pentagon_bit(base);
     (n & ONES) * bit
@@ -43,7 +43,7 @@ fn low_bits(n: u64, base: u64) -> u64
 // The refusal's number or 0, from the last test to the first, so that none is a branch. A test need only be right where those before it fail: the mode is
 // read with the top bit; a used 7 makes the marks greater than `u`; else an unused digit that is not 7 makes them less; else no unused digit is a first 1.
 fn refusal_number(n: u64) -> u64
-    ensures { (result ≤ 7) × (checkOf n ≡ (if nat_eq result 0 then answered n else refused result)) }
+    ensures { (result ≤ 7) × (check_of n ≡ (if nat_eq result 0 then answered n else refused result)) }
 {
     let base = get_base_cell(n);
     let u = unused(get_resolution(n));
@@ -59,7 +59,7 @@ fn refusal_number(n: u64) -> u64
 
 // Where it holds, no test refuses the number. Each part is 0 where its tests pass; of two numbers below 2^45 bit 63 of the difference says which is less.
 fn is_cell(n: u64) -> bool
-    ensures { result ≡ true → checkOf n ≡ answered n }
+    ensures { result ≡ true → check_of n ≡ answered n }
 {
     let base = get_base_cell(n);
     let u = unused(get_resolution(n));
@@ -72,7 +72,7 @@ fn is_cell(n: u64) -> bool
 
 // The same number, for numbers that mostly are cells.
 fn likely_number(n: u64) -> u64
-    ensures { (result ≤ 7) × (checkOf n ≡ (if nat_eq result 0 then answered n else refused result)) }
+    ensures { (result ≤ 7) × (check_of n ≡ (if nat_eq result 0 then answered n else refused result)) }
 {
     if is_cell(n) {
         return 0;
@@ -81,8 +81,8 @@ fn likely_number(n: u64) -> u64
 }
 
 fn checked(n: u64, k: u64) -> Checked
-    requires { (k ≤ 7) × (checkOf n ≡ (if nat_eq k 0 then answered n else refused k)) }
-    ensures { told result ≡ checkOf n }
+    requires { (k ≤ 7) × (check_of n ≡ (if nat_eq k 0 then answered n else refused k)) }
+    ensures { told result ≡ check_of n }
 {
     if k == 0 {
         return Checked::Valid(Cell(n));
@@ -92,14 +92,14 @@ fn checked(n: u64, k: u64) -> Checked
 
 // The check, for numbers that mostly are cells.
 pub fn check(n: u64) -> Checked
-    ensures { told result ≡ checkOf n }
+    ensures { told result ≡ check_of n }
 {
     checked(n, likely_number(n))
 }
 
 // The check with no branch, for numbers of which many are bad.
 pub fn check_flat(n: u64) -> Checked
-    ensures { told result ≡ checkOf n }
+    ensures { told result ≡ check_of n }
 {
     checked(n, refusal_number(n))
 }

@@ -5,7 +5,7 @@ use lib.Seq.{drop-append-add}
 use Rattle.descent.specs.Positions.{tab}
 use Rattle.listing.specs.Copies.{copies, ramp, stairs}
 use Rattle.descent.proofs.Tab.{length_tab, tab_length, tab_none, tab_more}
-use Rattle.descent.proofs.Whole.{getD_tab}
+use Rattle.descent.proofs.Whole.{get_or_tab}
 
 length_copies : (l : List ℕ) (a k d s : ℕ) → length (copies l a k d s) ≡ length l
 unfolding copies
@@ -43,7 +43,7 @@ module _ (f : ℕ → ℕ) (b : List ℕ) where
       let ih = copied_k a k d s g h (omega arith) w (λ p y z. e p y (omega arith)) in
       let q : a + k - d < a + k = omega arith in
       let r : get_or (tab f (a + k) ++ drop (a + k) b) (a + k - d) 0 ≡ f (a + k - d) =
-      get_or-append (tab f (a + k)) (drop (a + k) b) 0 (a + k - d) (subst (λ (z : ℕ). a + k - d < z) (sym (length_tab f (a + k))) q) ∙ getD_tab f (a + k) (a + k - d) q in
+      get_or-append (tab f (a + k)) (drop (a + k) b) 0 (a + k - d) (subst (λ (z : ℕ). a + k - d < z) (sym (length_tab f (a + k))) q) ∙ get_or_tab f (a + k) (a + k - d) q in
       let v : f (a + k) ≡ f (a + k - d) + s = e (a + k) (omega arith) (omega arith) in
       let n : a + suc k ≡ a + k + 1 = omega arith in
       rw (ih, n) (tab_more f b (a + k) _ (omega arith) (rw (r, ← v) (mod-eq_of_lt (w (a + k)))))

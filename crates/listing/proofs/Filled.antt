@@ -1,10 +1,10 @@
 -- The first numbers below a cell by runs of siblings; and the numbers below a first child are the children. Assumes nothing.
 use Rattle.std.proofs.Common.{◌≡◌, ℕ, zero, suc, ◌+◌, ◌-◌, ◌*◌, ◌^◌, ◌<◌, ◌≤◌, Bool, true, false, List, ◌++◌, length, drop, set, refl, ap, ◌∙◌, lt-suc_self, arith}
 use native.Mathlib.Nat.{le_step}
-use Rattle.index.specs.Layout.{resOf, Valid}
+use Rattle.index.specs.Layout.{res_of, Valid}
 use Rattle.index.specs.View.{octal}
 use Rattle.descent.specs.Descendants.{pentagon, count, count_of}
-use Rattle.descent.specs.Positions.{below, childAt, tab, listing}
+use Rattle.descent.specs.Positions.{below, child_at, tab, listing}
 use Rattle.listing.specs.Copies.{ramp, stairs, number_at}
 use Rattle.descent.proofs.Start as start
 use Rattle.descent.proofs.Tab.{tab_none}
@@ -68,7 +68,7 @@ tab_same f g zero h = refl
 tab_same f g (suc k) h = rw (tab_same f g k (λ p l. h p (le_step l)), h k (lt-suc_self k))
 
 -- what `list` asks and gets, where the first child, the place value and the resolutions down are those of n
-module _ (n t : ℕ) (h64 : n < 2 ^ 64) (v : Valid n) (lo : resOf n ≤ t) (hi : t ≤ 15) (f : Bool) (first unit m : ℕ) (ef : f ≡ pentagon n) (e₀ : first ≡ childAt n t 0) (eu : unit ≡ 8 ^ (15 - t)) (em : m ≡ t - resOf n) where
+module _ (n t : ℕ) (h64 : n < 2 ^ 64) (v : Valid n) (lo : res_of n ≤ t) (hi : t ≤ 15) (f : Bool) (first unit m : ℕ) (ef : f ≡ pentagon n) (e₀ : first ≡ child_at n t 0) (eu : unit ≡ 8 ^ (15 - t)) (em : m ≡ t - res_of n) where
   pub asked : (l : List ℕ) → count_of n t ≤ length l → (m ≤ 15) × (unit * 8 ^ m ≤ 2 ^ 45) × (first < 2 ^ 63) × (count f m ≤ length l)
   asked l h = (
     omega arith,
@@ -77,7 +77,7 @@ module _ (n t : ℕ) (h64 : n < 2 ^ 64) (v : Valid n) (lo : resOf n ≤ t) (hi :
     rw (ef, em) h,
   )
 
-  each : (p : ℕ) → p < count_of n t → number_at first unit f m p ≡ childAt n t p
+  each : (p : ℕ) → p < count_of n t → number_at first unit f m p ≡ child_at n t p
   unfolding number_at
   each p h = rw (ef, e₀, eu, em) (start.child_sum n t h64 v lo hi p h)
 

@@ -1,6 +1,6 @@
 // A listing by runs and blocks: the numbers below the first child `base`, where `unit` is one in the finest digit's place.
 ghost use Rattle.std.specs.Prelude.{◌≡◌, ◌+◌, ◌-◌, ◌*◌, ◌^◌, ◌<◌, ◌≤◌, true, false, ◌++◌, length, drop};
-ghost use Rattle.index.specs.Layout.{Valid, resOf};
+ghost use Rattle.index.specs.Layout.{Valid, res_of};
 ghost use Rattle.descent.specs.Descendants.{count, count_of};
 ghost use Rattle.descent.specs.Positions.{tab, listing};
 ghost use Rattle.listing.specs.Copies.{copies, ramp, stairs, number_at};
@@ -132,7 +132,7 @@ fn fill_pentagon(base: u64, unit: u64, m: u64, buf: &mut [u64])
 
 // All descendants of c at the resolution t.
 pub fn list(c: Cell, t: Resolution, buf: &mut [u64])
-    requires { Valid c.0 × (resOf c.0 ≤ t.0) × (t.0 ≤ 15) × (count_of c.0 t.0 ≤ length buf.old) }
+    requires { Valid c.0 × (res_of c.0 ≤ t.0) × (t.0 ≤ 15) × (count_of c.0 t.0 ≤ length buf.old) }
     ensures { buf.new ≡ listing c.0 t.0 ++ drop (count_of c.0 t.0) buf.old }
 {
     let first = get_starting_state(c, t);

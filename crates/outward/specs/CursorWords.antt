@@ -5,46 +5,46 @@ use Rattle.index.specs.Refusals.{Outcome, answered, refused}
 use Rattle.children.specs.Cursors.{next_of}
 use Rattle.children.specs.declared.children.Cursor.{Cursor}
 use Rattle.children.specs.declared.children.Given.{Given}
-use Rattle.entry.specs.Answers.{toldGiven}
+use Rattle.entry.specs.Answers.{given_told}
 use Rattle.outward.specs.declared.cursors.Skip.{Skip}
 use Rattle.outward.specs.declared.cursors.Read.{Read}
 
 -- negsuc k is -1 - k
-abbrev pub skipWord : ℤ → ℕ
-skipWord (pos n) = n
-skipWord (negsuc k) = 2 ^ 64 - 1 - k
+abbrev pub skip_word : ℤ → ℕ
+skip_word (pos n) = n
+skip_word (negsuc k) = 2 ^ 64 - 1 - k
 
 abbrev pub words_of : Cursor → List ℕ
-words_of c = c.own ∷ c.target ∷ c.number ∷ skipWord c.skip ∷ c.left ∷ []
+words_of c = c.own ∷ c.target ∷ c.number ∷ skip_word c.skip ∷ c.left ∷ []
 
 -- the number from -2 ^ 31 to 2 ^ 31 - 1 that the word w holds
-abbrev pub skipIn : ℕ → Option ℤ
-skipIn w = cond (ltb w (2 ^ 31)) (some (pos w)) (cond (ltb w (2 ^ 64 - 2 ^ 31)) none (some (negsuc (2 ^ 64 - 1 - w))))
+abbrev pub skip_in : ℕ → Option ℤ
+skip_in w = cond (ltb w (2 ^ 31)) (some (pos w)) (cond (ltb w (2 ^ 64 - 2 ^ 31)) none (some (negsuc (2 ^ 64 - 1 - w))))
 
-abbrev pub toldSkip : Skip → Option ℤ
-toldSkip (Skip.Is z) = some z
-toldSkip Skip.Nothing = none
+abbrev pub skip_told : Skip → Option ℤ
+skip_told (Skip.Is z) = some z
+skip_told Skip.Nothing = none
 
-abbrev pub withSkip : ℕ → ℕ → ℕ → ℕ → Option ℤ → Option Cursor
-withSkip own target number left none = none
-withSkip own target number left (some z) = some (record { own = own; target = target; number = number; skip = z; left = left })
+abbrev pub with_skip : ℕ → ℕ → ℕ → ℕ → Option ℤ → Option Cursor
+with_skip own target number left none = none
+with_skip own target number left (some z) = some (record { own = own; target = target; number = number; skip = z; left = left })
 
 -- the cursor that five words hold
-abbrev pub cursorIn : ℕ → ℕ → ℕ → ℕ → ℕ → Option Cursor
-cursorIn own target number skip left =
-    cond (ltb own (2 ^ 32) && ltb target (2 ^ 32)) (withSkip own target number left (skipIn skip)) none
+abbrev pub cursor_in : ℕ → ℕ → ℕ → ℕ → ℕ → Option Cursor
+cursor_in own target number skip left =
+    cond (ltb own (2 ^ 32) && ltb target (2 ^ 32)) (with_skip own target number left (skip_in skip)) none
 
-abbrev pub toldRead : Read → Option Cursor
-toldRead (Read.At c) = some c
-toldRead Read.Nothing = none
+abbrev pub read_told : Read → Option Cursor
+read_told (Read.At c) = some c
+read_told Read.Nothing = none
 
-abbrev pub cursorOfWords : List ℕ → Option Cursor
-cursorOfWords ws = cursorIn (get_or ws 0 0) (get_or ws 1 0) (get_or ws 2 0) (get_or ws 3 0) (get_or ws 4 0)
+abbrev pub cursor_of_words : List ℕ → Option Cursor
+cursor_of_words ws = cursor_in (get_or ws 0 0) (get_or ws 1 0) (get_or ws 2 0) (get_or ws 3 0) (get_or ws 4 0)
 
 -- a fresh cursor's words, or the words as they were
-abbrev pub startedWords : List ℕ → Outcome Cursor → List ℕ
-startedWords ws (answered c) = words_of c
-startedWords ws (refused k) = ws
+abbrev pub started_words : List ℕ → Outcome Cursor → List ℕ
+started_words ws (answered c) = words_of c
+started_words ws (refused k) = ws
 
 -- the child, or 0 for Done: no cell has the number 0
 abbrev pub or_zero : Outcome (Option ℕ) → Outcome ℕ
@@ -52,19 +52,19 @@ or_zero (answered (some y)) = answered y
 or_zero (answered none) = answered 0
 or_zero (refused k) = refused k
 
-abbrev pub givenNumber : Given → Outcome ℕ
-givenNumber g = or_zero (toldGiven g)
+abbrev pub given_number : Given → Outcome ℕ
+given_number g = or_zero (given_told g)
 
 -- the following cursor's words, or the words as they were
-abbrev pub givenWords : List ℕ → Given → List ℕ
-givenWords ws (Given.Child y c) = words_of c
-givenWords ws (Given.Done c) = ws
-givenWords ws (Given.Refused c) = ws
+abbrev pub given_words : List ℕ → Given → List ℕ
+given_words ws (Given.Child y c) = words_of c
+given_words ws (Given.Done c) = ws
+given_words ws (Given.Refused c) = ws
 
-abbrev pub nextNumber : Option Cursor → Outcome ℕ
-nextNumber none = refused 11
-nextNumber (some c) = givenNumber (next_of c)
+abbrev pub next_number : Option Cursor → Outcome ℕ
+next_number none = refused 11
+next_number (some c) = given_number (next_of c)
 
-abbrev pub nextWords : List ℕ → Option Cursor → List ℕ
-nextWords ws none = ws
-nextWords ws (some c) = givenWords ws (next_of c)
+abbrev pub next_words : List ℕ → Option Cursor → List ℕ
+next_words ws none = ws
+next_words ws (some c) = given_words ws (next_of c)

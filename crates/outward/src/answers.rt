@@ -1,7 +1,7 @@
 // The structs that exports hand out, each made of what an entry answered.
 ghost use Rattle.std.specs.Prelude.{◌≡◌, ◌<◌};
-ghost use Rattle.entry.specs.Answers.{toldNumber, toldTruth, toldPoint, toldPair, toldWalked, toldStepped};
-ghost use Rattle.outward.specs.Exports.{numberOut, truthOut, pointOut, pairOut, walkedOut, steppedOut};
+ghost use Rattle.entry.specs.Answers.{number_told, truth_told, point_told, pair_told, walked_told, stepped_told};
+ghost use Rattle.outward.specs.Exports.{number_out, truth_out, point_out, pair_out, walked_out, stepped_out};
 
 use entry::{Number, Pair, Point, Stepped, Truth, Walked};
 
@@ -69,7 +69,7 @@ pub fn refusal_out(refusal: u16) -> RgChecked
 }
 
 pub fn number_out(a: Number) -> RgNumber
-    ensures { result ≡ numberOut (toldNumber a) }
+    ensures { result ≡ number_out (number_told a) }
 {
     match a {
         Number::Is(value) => RgNumber {
@@ -86,7 +86,7 @@ pub fn number_out(a: Number) -> RgNumber
 }
 
 pub fn truth_out(a: Truth) -> RgNumber
-    ensures { result ≡ truthOut (toldTruth a) }
+    ensures { result ≡ truth_out (truth_told a) }
 {
     match a {
         Truth::Is(b) => RgNumber {
@@ -103,7 +103,7 @@ pub fn truth_out(a: Truth) -> RgNumber
 }
 
 pub fn point_out(a: Point) -> RgPoint
-    ensures { result ≡ pointOut (toldPoint a) }
+    ensures { result ≡ point_out (point_told a) }
 {
     match a {
         Point::At(p) => RgPoint {
@@ -124,7 +124,7 @@ pub fn point_out(a: Point) -> RgPoint
 }
 
 pub fn pair_out(a: Pair) -> RgPair
-    ensures { result ≡ pairOut (toldPair a) }
+    ensures { result ≡ pair_out (pair_told a) }
 {
     match a {
         Pair::At(p) => RgPair {
@@ -143,7 +143,7 @@ pub fn pair_out(a: Pair) -> RgPair
 }
 
 pub fn walked_out(a: Walked) -> RgWalked
-    ensures { result ≡ walkedOut (toldWalked a) }
+    ensures { result ≡ walked_out (walked_told a) }
 {
     match a {
         Walked::To(number, carry) => RgWalked {
@@ -163,8 +163,8 @@ pub fn walked_out(a: Walked) -> RgWalked
 
 // The turn number and the direction have to fit 16 bits.
 pub fn stepped_out(a: Stepped) -> RgStepped
-    requires { (steppedOut (toldStepped a)).turn < 65536 }
-    ensures { result ≡ steppedOut (toldStepped a) }
+    requires { (stepped_out (stepped_told a)).turn < 65536 }
+    ensures { result ≡ stepped_out (stepped_told a) }
 {
     match a {
         Stepped::Inside(cell, turn) => RgStepped {

@@ -1,16 +1,16 @@
 // The cursor in C: five words of 64 bits, own resolution, target, number, skip in two's complement, left.
 ghost use Rattle.std.specs.Prelude.{◌≡◌};
 ghost use Rattle.index.specs.Refusals.{number_of};
-ghost use Rattle.entry.specs.Answers.{toldStarted};
-ghost use Rattle.outward.specs.Exports.{numberOut};
-ghost use Rattle.outward.specs.CursorWords.{skipWord, words_of, skipIn, toldSkip, cursorIn, toldRead, startedWords, givenNumber, givenWords};
+ghost use Rattle.entry.specs.Answers.{started_told};
+ghost use Rattle.outward.specs.Exports.{number_out};
+ghost use Rattle.outward.specs.CursorWords.{skip_word, words_of, skip_in, skip_told, cursor_in, read_told, started_words, given_number, given_words};
 
 use crate::answers::{RgChecked, RgNumber, refusal_out};
 use children::{Cursor, Given};
 use entry::Started;
 
 fn skip_word(skip: i32) -> u64
-    ensures { result ≡ skipWord skip }
+    ensures { result ≡ skip_word skip }
 {
     if skip < 0 {
         let below = -1 - skip;
@@ -38,7 +38,7 @@ enum Skip {
 }
 
 fn skip_in(word: u64) -> Skip
-    ensures { toldSkip result ≡ skipIn word }
+    ensures { skip_told result ≡ skip_in word }
 {
     if word < 0x8000_0000 {
         return Skip::Is(word as i32);
@@ -57,7 +57,7 @@ pub enum Read {
 }
 
 pub fn cursor_in(own: u64, target: u64, number: u64, skip: u64, left: u64) -> Read
-    ensures { toldRead result ≡ cursorIn own target number skip left }
+    ensures { read_told result ≡ cursor_in own target number skip left }
 {
     if own > 0xffff_ffff {
         return Read::Nothing;
@@ -80,7 +80,7 @@ pub fn cursor_in(own: u64, target: u64, number: u64, skip: u64, left: u64) -> Re
 
 // A fresh cursor's words are written; a refused request leaves the words.
 pub fn started_out(a: Started, words: &mut [u64; 5]) -> RgChecked
-    ensures { (result.refusal ≡ number_of (toldStarted a)) × (result.zero ≡ 0) × (words.new ≡ startedWords words.old (toldStarted a)) }
+    ensures { (result.refusal ≡ number_of (started_told a)) × (result.zero ≡ 0) × (words.new ≡ started_words words.old (started_told a)) }
 {
     let Started::At(c) = a else {
         return refusal_out(a.refusal());
@@ -91,7 +91,7 @@ pub fn started_out(a: Started, words: &mut [u64; 5]) -> RgChecked
 
 // The words move on with a child, and stay otherwise.
 pub fn given_out(g: Given, words: &mut [u64; 5]) -> RgNumber
-    ensures { (result ≡ numberOut (givenNumber g)) × (words.new ≡ givenWords words.old g) }
+    ensures { (result ≡ number_out (given_number g)) × (words.new ≡ given_words words.old g) }
 {
     match g {
         Given::Child(value, following) => {

@@ -1,7 +1,7 @@
 // Entries on directions and points. A direction is judged before a range, whatever the order of the parameters.
 ghost use Rattle.std.specs.Prelude.{◌≡◌, true, false};
-ghost use Rattle.entry.specs.Answers.{toldNumber, toldTruth, toldPoint, toldPair};
-ghost use Rattle.point_entries.specs.Points.{unit_of, directionTurnOf, normaliseOf, neighbourOf, sameOf, distance_of, toIjOf, fromIjOf, down7Of, down3Of, pointTurnOf, up7Of, directionOf};
+ghost use Rattle.entry.specs.Answers.{number_told, truth_told, point_told, pair_told};
+ghost use Rattle.point_entries.specs.Points.{unit_of, direction_turn_of, normalise_of, neighbour_of, same_of, distance_of, to_ij_of, from_ij_of, down7_of, down3_of, point_turn_of, up7_of, direction_of_point};
 
 use entry::judge::{Heading, Place, head, locate};
 use entry::{Number, Pair, Point, Truth};
@@ -10,7 +10,7 @@ use plane::ijk::{IJ, IJK, Way};
 use plane::{direction, ijk};
 
 pub fn unit(direction: u32) -> Point
-    ensures { toldPoint result ≡ unit_of direction }
+    ensures { point_told result ≡ unit_of direction }
 {
     let a = head(direction);
     let Heading::To(d) = a else {
@@ -20,7 +20,7 @@ pub fn unit(direction: u32) -> Point
 }
 
 fn direction_turn(direction: u32, count: u32, ccw: bool) -> Number
-    ensures { toldNumber result ≡ directionTurnOf ccw direction count }
+    ensures { number_told result ≡ direction_turn_of ccw direction count }
 {
     let a = head(direction);
     let Heading::To(d) = a else {
@@ -34,19 +34,19 @@ fn direction_turn(direction: u32, count: u32, ccw: bool) -> Number
 }
 
 pub fn direction_turn_ccw(direction: u32, count: u32) -> Number
-    ensures { toldNumber result ≡ directionTurnOf true direction count }
+    ensures { number_told result ≡ direction_turn_of true direction count }
 {
     direction_turn(direction, count, true)
 }
 
 pub fn direction_turn_cw(direction: u32, count: u32) -> Number
-    ensures { toldNumber result ≡ directionTurnOf false direction count }
+    ensures { number_told result ≡ direction_turn_of false direction count }
 {
     direction_turn(direction, count, false)
 }
 
 pub fn normalise(p: IJK) -> Point
-    ensures { toldPoint result ≡ normaliseOf p }
+    ensures { point_told result ≡ normalise_of p }
 {
     let a = locate(p);
     let Place::Within(at) = a else {
@@ -56,7 +56,7 @@ pub fn normalise(p: IJK) -> Point
 }
 
 pub fn neighbour(p: IJK, direction: u32) -> Point
-    ensures { toldPoint result ≡ neighbourOf p direction }
+    ensures { point_told result ≡ neighbour_of p direction }
 {
     let heading = head(direction);
     let place = locate(p);
@@ -72,7 +72,7 @@ pub fn neighbour(p: IJK, direction: u32) -> Point
 }
 
 pub fn same_point(p: IJK, q: IJK) -> Truth
-    ensures { toldTruth result ≡ sameOf p q }
+    ensures { truth_told result ≡ same_of p q }
 {
     let a = locate(p);
     let Place::Within(at) = a else {
@@ -86,7 +86,7 @@ pub fn same_point(p: IJK, q: IJK) -> Truth
 }
 
 pub fn distance(p: IJK, q: IJK) -> Number
-    ensures { toldNumber result ≡ distance_of p q }
+    ensures { number_told result ≡ distance_of p q }
 {
     let a = locate(p);
     let Place::Within(at) = a else {
@@ -100,7 +100,7 @@ pub fn distance(p: IJK, q: IJK) -> Number
 }
 
 pub fn to_ij(p: IJK) -> Pair
-    ensures { toldPair result ≡ toIjOf p }
+    ensures { pair_told result ≡ to_ij_of p }
 {
     let a = locate(p);
     let Place::Within(at) = a else {
@@ -110,7 +110,7 @@ pub fn to_ij(p: IJK) -> Pair
 }
 
 pub fn from_ij(p: IJ) -> Point
-    ensures { toldPoint result ≡ fromIjOf p }
+    ensures { point_told result ≡ from_ij_of p }
 {
     let i = p.i;
     let j = p.j;
@@ -122,7 +122,7 @@ pub fn from_ij(p: IJ) -> Point
 }
 
 fn down7(p: IJK, ccw: bool) -> Point
-    ensures { toldPoint result ≡ down7Of ccw p }
+    ensures { point_told result ≡ down7_of ccw p }
 {
     let a = locate(p);
     let Place::Within(at) = a else {
@@ -132,19 +132,19 @@ fn down7(p: IJK, ccw: bool) -> Point
 }
 
 pub fn down7_ccw(p: IJK) -> Point
-    ensures { toldPoint result ≡ down7Of true p }
+    ensures { point_told result ≡ down7_of true p }
 {
     down7(p, true)
 }
 
 pub fn down7_cw(p: IJK) -> Point
-    ensures { toldPoint result ≡ down7Of false p }
+    ensures { point_told result ≡ down7_of false p }
 {
     down7(p, false)
 }
 
 fn down3(p: IJK, ccw: bool) -> Point
-    ensures { toldPoint result ≡ down3Of ccw p }
+    ensures { point_told result ≡ down3_of ccw p }
 {
     let a = locate(p);
     let Place::Within(at) = a else {
@@ -154,19 +154,19 @@ fn down3(p: IJK, ccw: bool) -> Point
 }
 
 pub fn down3_ccw(p: IJK) -> Point
-    ensures { toldPoint result ≡ down3Of true p }
+    ensures { point_told result ≡ down3_of true p }
 {
     down3(p, true)
 }
 
 pub fn down3_cw(p: IJK) -> Point
-    ensures { toldPoint result ≡ down3Of false p }
+    ensures { point_told result ≡ down3_of false p }
 {
     down3(p, false)
 }
 
 fn point_turn(p: IJK, ccw: bool) -> Point
-    ensures { toldPoint result ≡ pointTurnOf ccw p }
+    ensures { point_told result ≡ point_turn_of ccw p }
 {
     let a = locate(p);
     let Place::Within(at) = a else {
@@ -176,19 +176,19 @@ fn point_turn(p: IJK, ccw: bool) -> Point
 }
 
 pub fn point_turn_ccw(p: IJK) -> Point
-    ensures { toldPoint result ≡ pointTurnOf true p }
+    ensures { point_told result ≡ point_turn_of true p }
 {
     point_turn(p, true)
 }
 
 pub fn point_turn_cw(p: IJK) -> Point
-    ensures { toldPoint result ≡ pointTurnOf false p }
+    ensures { point_told result ≡ point_turn_of false p }
 {
     point_turn(p, false)
 }
 
 fn up7(p: IJK, ccw: bool) -> Point
-    ensures { toldPoint result ≡ up7Of ccw p }
+    ensures { point_told result ≡ up7_of ccw p }
 {
     let a = locate(p);
     let Place::Within(at) = a else {
@@ -198,19 +198,19 @@ fn up7(p: IJK, ccw: bool) -> Point
 }
 
 pub fn up7_ccw(p: IJK) -> Point
-    ensures { toldPoint result ≡ up7Of true p }
+    ensures { point_told result ≡ up7_of true p }
 {
     up7(p, true)
 }
 
 pub fn up7_cw(p: IJK) -> Point
-    ensures { toldPoint result ≡ up7Of false p }
+    ensures { point_told result ≡ up7_of false p }
 {
     up7(p, false)
 }
 
 pub fn direction_of(p: IJK) -> Number
-    ensures { toldNumber result ≡ directionOf p }
+    ensures { number_told result ≡ direction_of_point p }
 {
     let a = locate(p);
     let Place::Within(at) = a else {

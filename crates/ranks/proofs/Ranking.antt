@@ -7,9 +7,9 @@ use Prim.Native.Nat.{ℕ, zero, suc, ◌+◌, ◌-◌, ◌*◌, ◌/◌, ◌%◌
 use native.Mathlib.Nat.{pow-le-pow_right}
 use native.Mathlib.Omega.{arith}
 use lib.Count.{count_leading_zeros, leading_le}
-use Rattle.index.specs.Layout.{resOf, Valid}
+use Rattle.index.specs.Layout.{res_of, Valid}
 use Rattle.index.specs.View.{octal}
-use Rattle.index.specs.Ancestor.{ancestorOf}
+use Rattle.index.specs.Ancestor.{ancestor_of}
 use Rattle.index.proofs.Runs.{run, run_zero, run_suc}
 use Rattle.index.proofs.View.{run_lt}
 use Rattle.descent.specs.Descendants.{pentagon, count}
@@ -33,20 +33,20 @@ Back f n k m = (below f m (rank f (seg n k m)) ≡ seg n k m) × (rank f (seg n 
 moved : (f g : Bool) (n k i k' i' : ℕ) → g ≡ f → k ≡ k' → i ≡ i' → Back f n k i → Back g n k' i'
 moved f g n k i k' i' e₁ e₂ e₃ h = rw (e₁, ← e₂, ← e₃) h
 
-module _ (n own m x u v : ℕ) (f : Bool) (h64 : n < 2 ^ 64) (ok : Valid n) (e : own + m ≡ resOf n) (ef : f ≡ pentagon (ancestorOf n own))
+module _ (n own m x u v : ℕ) (f : Bool) (h64 : n < 2 ^ 64) (ok : Valid n) (e : own + m ≡ res_of n) (ef : f ≡ pentagon (ancestor_of n own))
     (ex : x ≡ 15 - m) (eu : u ≡ 8 ^ (15 - x)) (ev : v ≡ n / 2 ^ (3 * (15 - (own + m))) % u) where
   abbrev xs : List ℕ
   xs = seg n own m
 
-  low : own ≤ resOf n
+  low : own ≤ res_of n
   low = omega arith
 
   back : Back f n own m
   back =
-      let a : ℕ = ancestorOf n own in
+      let a : ℕ = ancestor_of n own in
       let r = own_is n own h64 ok low in
-      let d = digits_back a (resOf n) (owner_fits n own h64 ok low) (owner_valid n own h64 ok low) (owner_low n own h64 ok low) (omega arith) n (ancestor_above n own h64 ok low) in
-      moved (pentagon a) f n (resOf a) (resOf n - resOf a) own m ef r (omega arith) d
+      let d = digits_back a (res_of n) (owner_fits n own h64 ok low) (owner_valid n own h64 ok low) (owner_low n own h64 ok low) (omega arith) n (ancestor_above n own h64 ok low) in
+      moved (pentagon a) f n (res_of a) (res_of n - res_of a) own m ef r (omega arith) d
 
   word : v ≡ octal xs
   unfolding run
@@ -94,10 +94,10 @@ module _ (n own m x u v : ℕ) (f : Bool) (h64 : n < 2 ^ 64) (ok : Valid n) (e :
           (omega (arith, z, t.sum), omega (arith, z, t.sum))
 
 -- what `rank_of` asks, in the words of its callers
-pub asked : (y k own own' target target' a : ℕ) (f : Bool) → Valid y → k ≡ y → own' ≡ own → own ≤ target → target ≡ target' → target' ≡ resOf y → a ≡ ancestorOf y own' → f ≡ pentagon a →
-    Valid k × (own + (target - own) ≡ resOf k) × (f ≡ pentagon (ancestorOf k own))
+pub asked : (y k own own' target target' a : ℕ) (f : Bool) → Valid y → k ≡ y → own' ≡ own → own ≤ target → target ≡ target' → target' ≡ res_of y → a ≡ ancestor_of y own' → f ≡ pentagon a →
+    Valid k × (own + (target - own) ≡ res_of k) × (f ≡ pentagon (ancestor_of k own))
 asked y k own own' target target' a f ok ek eo l et et' ea ef =
-    (subst Valid (sym ek) ok, long ∙ et ∙ et' ∙ ap resOf (sym ek), ef ∙ ap pentagon (ea ∙ ap (ancestorOf y) eo ∙ ap (λ (z : ℕ). ancestorOf z own) (sym ek)))
+    (subst Valid (sym ek) ok, long ∙ et ∙ et' ∙ ap res_of (sym ek), ef ∙ ap pentagon (ea ∙ ap (ancestor_of y) eo ∙ ap (λ (z : ℕ). ancestor_of z own) (sym ek)))
   where
     long : own + (target - own) ≡ target
     long = omega arith

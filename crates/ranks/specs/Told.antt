@@ -4,6 +4,6 @@ use Rattle.index.specs.Refusals.{Outcome, answered, refused}
 use Rattle.ranks.specs.declared.rank.Found.{Found}
 use Rattle.ranks.specs.declared.rank.Found.TheVariants.{At, NotUnder}
 
-abbrev pub toldFound : Found → Outcome ℕ
-toldFound (At p) = answered p
-toldFound NotUnder = refused 12
+abbrev pub found_told : Found → Outcome ℕ
+found_told (At p) = answered p
+found_told NotUnder = refused 12

@@ -1,11 +1,11 @@
 // Child at position, and position of child.
 ghost use Rattle.std.specs.Prelude.{◌≡◌, false, ℕ, ◌+◌, ◌-◌, ◌*◌, ◌^◌, ◌≤◌, ◌<◌};
-ghost use Rattle.index.specs.Layout.{Valid, resOf};
+ghost use Rattle.index.specs.Layout.{Valid, res_of};
 ghost use Rattle.index.specs.View.{octal};
-ghost use Rattle.index.specs.Ancestor.{ancestorOf};
+ghost use Rattle.index.specs.Ancestor.{ancestor_of};
 ghost use Rattle.descent.specs.Descendants.{pentagon, count, count_of};
-ghost use Rattle.descent.specs.Positions.{below, childAt, rank as rank_of, seg, foundOf};
-ghost use Rattle.ranks.specs.Told.{toldFound};
+ghost use Rattle.descent.specs.Positions.{below, child_at, rank as rankOf, seg, found_of};
+ghost use Rattle.ranks.specs.Told.{found_told};
 
 use descent::{get_starting_state, sevens};
 use index::inside::{
@@ -56,8 +56,8 @@ fn in_eights(p: u64) -> u64
 }
 
 pub fn child_at(c: Cell, t: Resolution, p: u64) -> Cell
-    requires { Valid c.0 × (resOf c.0 ≤ t.0) × (t.0 ≤ 15) × (p < count_of c.0 t.0) }
-    ensures { (result.0 ≡ childAt c.0 t.0 p) × Valid result.0 }
+    requires { Valid c.0 × (res_of c.0 ≤ t.0) × (t.0 ≤ 15) × (p < count_of c.0 t.0) }
+    ensures { (result.0 ≡ child_at c.0 t.0 p) × Valid result.0 }
 {
     let own = resolution_number(resolution_of(c));
     let target = resolution_number(t);
@@ -82,8 +82,8 @@ fn in_sevens(v: u64) -> u64
 
 // The position of the digits own + 1 to own + m of n, below a pentagon less what the deleted positions take.
 pub fn rank_of(pent: bool, n: u64, own: u64, m: u64) -> u64
-    requires { Valid n × (own + m ≡ resOf n) × (pent ≡ pentagon (ancestorOf n own)) }
-    ensures { result ≡ rank_of pent (seg n own m) }
+    requires { Valid n × (own + m ≡ res_of n) × (pent ≡ pentagon (ancestor_of n own)) }
+    ensures { result ≡ rankOf pent (seg n own m) }
 {
     let v = (n >> (3 * (15 - (own + m)))) % place(resolution(15 - m));
     let p = in_sevens(v);
@@ -98,7 +98,7 @@ pub fn rank_of(pent: bool, n: u64, own: u64, m: u64) -> u64
 // The position of y below c.
 pub fn position(c: Cell, y: Cell) -> Found
     requires { Valid c.0 × Valid y.0 }
-    ensures { toldFound result ≡ foundOf c.0 y.0 }
+    ensures { found_told result ≡ found_of c.0 y.0 }
 {
     let coarse = resolution_of(c);
     let own = resolution_number(coarse);

@@ -6,9 +6,9 @@ use Rattle.index.specs.Refusals.{Outcome, answered, refused, judged}
 use Rattle.plane.specs.declared.ijk.IJK.{IJK}
 use Rattle.centres.specs.Centres.{Reads}
 use Rattle.centres.proofs.Strings.{one_reading}
-use Rattle.entry.specs.Rules.{resolutionRule, rangeRule}
+use Rattle.entry.specs.Rules.{resolution_rule, range_rule}
 use Rattle.step_entries.specs.Steps.{Under}
-use Rattle.outward.specs.Exports.{numberOut}
+use Rattle.outward.specs.Exports.{number_out}
 use Rattle.rivetgnome.specs.Steps.{ReadsBackOut}
 use Rattle.outward.specs.declared.answers.RgChecked.{RgChecked}
 use Rattle.outward.specs.declared.answers.RgNumber.{RgNumber}
@@ -37,4 +37,4 @@ module _ (length : ℕ) (p : IJK) where
   one_outcome (refused k) o q a b = a ∙ sym b
 
   pub one_read_back_out : (r s : RgNumber) → ReadsBackOut length p r → ReadsBackOut length p s → r ≡ s
-  one_read_back_out r s a b = a.2 ∙ ap numberOut (one_outcome (judged (resolutionRule length ∷ rangeRule p ∷ []) tt) a.0 b.0 a.1 b.1) ∙ sym b.2
+  one_read_back_out r s a b = a.2 ∙ ap number_out (one_outcome (judged (resolution_rule length ∷ range_rule p ∷ []) tt) a.0 b.0 a.1 b.1) ∙ sym b.2

@@ -8,18 +8,18 @@ use lib.Dec.{eqb, ltb}
 use borrow.Author.Tests.{ltb-false}
 use Rattle.index.specs.Layout.{Valid}
 use Rattle.index.specs.Refusals.{Rule, Outcome, answered, refused, judged, Clear}
-use Rattle.index.specs.Check.{cellRules}
+use Rattle.index.specs.Check.{cell_rules}
 use Rattle.index.proofs.Rules.{never, answered_clear, clear_parts}
 use Rattle.index.proofs.Validity.{clear_valid}
-use Rattle.walks.specs.Walks.{carryOf}
+use Rattle.walks.specs.Walks.{carry_of}
 use Rattle.grid.specs.Steps.{Answer, inside, leaves}
 use Rattle.grid.specs.Steps as steps
 use Rattle.walks.proofs.Walks.{walk_moved}
 use Rattle.grid.proofs.Inside.{Case, left, stayed, deleted, ccw, cw, cases, within}
 use Rattle.grid.proofs.Inside as inner
-use Rattle.entry.specs.Rules.{onwardRule}
-use Rattle.step_entries.specs.Steps.{onwardRules, after, step_of}
-use Rattle.outward.specs.Exports.{steppedOut}
+use Rattle.entry.specs.Rules.{onward_rule}
+use Rattle.step_entries.specs.Steps.{onward_rules, after, step_of}
+use Rattle.outward.specs.Exports.{stepped_out}
 
 below : (d : ℕ) → eqb d 0 || ltb 6 d ≡ false → d < 7
 below d e = go (eqb d 0) (ltb 6 d) refl e
@@ -40,11 +40,11 @@ same_way : (x : Outcome Answer) (w k : ℕ) → x ≡ answered (leaves w) → x 
 same_way x w k p q = cc
 
 module _ (n d : ℕ) (x : Answer) (e : step_of n d ≡ answered x) where
-  parts : Clear (cellRules n) × Clear (onwardRule d ∷ [])
-  parts = clear_parts (cellRules n) (onwardRule d ∷ []) (clear (onwardRules n d) (steps.step_of n d) x e).0
+  parts : Clear (cell_rules n) × Clear (onward_rule d ∷ [])
+  parts = clear_parts (cell_rules n) (onward_rule d ∷ []) (clear (onward_rules n d) (steps.step_of n d) x e).0
 
   step : steps.step_of n d ≡ answered x
-  step = (clear (onwardRules n d) (steps.step_of n d) x e).1
+  step = (clear (onward_rules n d) (steps.step_of n d) x e).1
 
   valid : Valid n
   valid = clear_valid n parts.0
@@ -56,7 +56,7 @@ turn_small : (n d m t : ℕ) → step_of n d ≡ answered (inside m t) → t < 7
 turn_small n d m t e = go (cases n d (valid n d _ e) (onward n d _ e)) (step n d _ e)
   where
     go : Case n d → steps.step_of n d ≡ answered (inside m t) → t < 7
-    go (left f q) p = (inner.never (steps.step_of n d) m t p).0 (carryOf n d) q
+    go (left f q) p = (inner.never (steps.step_of n d) m t p).0 (carry_of n d) q
     go (stayed z f q) p = omega (arith, (within (steps.step_of n d) m t _ _ p q).1)
     go (deleted z a g f q) p = (inner.never (steps.step_of n d) m t p).1 17 q
     go (ccw z a g f q) p = omega (arith, (within (steps.step_of n d) m t _ _ p q).1)
@@ -72,7 +72,7 @@ way_small n d w h e = go (cases n d (valid n d _ e) (onward n d _ e)) (step n d 
     go (ccw z a g f q) p = (inner.never (steps.step_of n d) _ _ q).0 w p
     go (cw z a g f q) p = (inner.never (steps.step_of n d) _ _ q).0 w p
 
-pub step_fits : (n d : ℕ) (o : Outcome Answer) → n < 2 ^ 64 → o ≡ step_of n d → (steppedOut o).turn < 65536
+pub step_fits : (n d : ℕ) (o : Outcome Answer) → n < 2 ^ 64 → o ≡ step_of n d → (stepped_out o).turn < 65536
 step_fits n d (answered (inside m t)) h e = omega (arith, turn_small n d m t (sym e))
 step_fits n d (answered (leaves w)) h e = omega (arith, way_small n d w h (sym e))
 step_fits n d (refused k) h e = omega arith

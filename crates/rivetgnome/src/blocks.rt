@@ -1,9 +1,9 @@
 // Exports over a block of numbers.
 ghost use Rattle.std.specs.Prelude.{◌≡◌};
-ghost use Rattle.index.specs.Check.{checkOf};
-ghost use Rattle.block_entries.specs.Blocks.{block_of, valuesAfter, refusalsAfter};
-ghost use Rattle.cell_entries.specs.Cells.{position_of, ancestorOf};
-ghost use Rattle.outward.specs.Exports.{numberOut};
+ghost use Rattle.index.specs.Check.{check_of};
+ghost use Rattle.block_entries.specs.Blocks.{block_of, values_after, refusals_after};
+ghost use Rattle.cell_entries.specs.Cells.{position_of, ancestor_of};
+ghost use Rattle.outward.specs.Exports.{number_out};
 
 use outward::{RgNumber, number_out};
 
@@ -13,7 +13,7 @@ pub extern "C" fn rg_check_block(
     values: &mut [u64],
     refusals: &mut [u16],
 ) -> RgNumber
-    ensures { (result ≡ numberOut (block_of cells.now values.old refusals.old)) × (values.new ≡ valuesAfter checkOf cells.now values.old refusals.old) × (refusals.new ≡ refusalsAfter checkOf cells.now values.old refusals.old) }
+    ensures { (result ≡ number_out (block_of cells.now values.old refusals.old)) × (values.new ≡ values_after check_of cells.now values.old refusals.old) × (refusals.new ≡ refusals_after check_of cells.now values.old refusals.old) }
 {
     number_out(hexagons::check_block(cells, values, refusals))
 }
@@ -25,7 +25,7 @@ pub extern "C" fn rg_ancestor_block(
     values: &mut [u64],
     refusals: &mut [u16],
 ) -> RgNumber
-    ensures { (result ≡ numberOut (block_of cells.now values.old refusals.old)) × (values.new ≡ valuesAfter (λ raw. ancestorOf raw resolution) cells.now values.old refusals.old) × (refusals.new ≡ refusalsAfter (λ raw. ancestorOf raw resolution) cells.now values.old refusals.old) }
+    ensures { (result ≡ number_out (block_of cells.now values.old refusals.old)) × (values.new ≡ values_after (λ raw. ancestor_of raw resolution) cells.now values.old refusals.old) × (refusals.new ≡ refusals_after (λ raw. ancestor_of raw resolution) cells.now values.old refusals.old) }
 {
     number_out(hexagons::ancestor_block(cells, resolution, values, refusals))
 }
@@ -37,7 +37,7 @@ pub extern "C" fn rg_position_block(
     values: &mut [u64],
     refusals: &mut [u16],
 ) -> RgNumber
-    ensures { (result ≡ numberOut (block_of seconds.now values.old refusals.old)) × (values.new ≡ valuesAfter (position_of first) seconds.now values.old refusals.old) × (refusals.new ≡ refusalsAfter (position_of first) seconds.now values.old refusals.old) }
+    ensures { (result ≡ number_out (block_of seconds.now values.old refusals.old)) × (values.new ≡ values_after (position_of first) seconds.now values.old refusals.old) × (refusals.new ≡ refusals_after (position_of first) seconds.now values.old refusals.old) }
 {
     number_out(hexagons::position_block(first, seconds, values, refusals))
 }

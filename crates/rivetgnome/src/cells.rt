@@ -1,9 +1,9 @@
 // Exports that take a cell.
 ghost use Rattle.std.specs.Prelude.{◌≡◌, ◌+◌, length};
-ghost use Rattle.index.specs.Layout.{resOf};
+ghost use Rattle.index.specs.Layout.{res_of};
 ghost use Rattle.index.specs.Refusals.{number_of};
-ghost use Rattle.cell_entries.specs.Cells.{valid_of, count_of, list_of, listShortOf, afterwards, childAtOf, position_of, ancestorOf};
-ghost use Rattle.outward.specs.Exports.{numberOut};
+ghost use Rattle.cell_entries.specs.Cells.{valid_of, count_of, list_of, list_short_of, afterwards, child_at_of, position_of, ancestor_of};
+ghost use Rattle.outward.specs.Exports.{number_out};
 
 use outward::{RgChecked, RgNumber, number_out, refusal_out};
 
@@ -16,42 +16,42 @@ pub extern "C" fn rg_check(cell: u64) -> RgChecked
 
 #[unsafe(no_mangle)]
 pub extern "C" fn rg_count(cell: u64, target: u32) -> RgNumber
-    ensures { result ≡ numberOut (count_of cell target) }
+    ensures { result ≡ number_out (count_of cell target) }
 {
     number_out(hexagons::count(cell, target))
 }
 
 #[unsafe(no_mangle)]
 pub extern "C" fn rg_list(cell: u64, target: u32, buf: &mut [u64]) -> RgNumber
-    ensures { (result ≡ numberOut (list_of cell target (length buf.old))) × (buf.new ≡ afterwards (list_of cell target (length buf.old)) cell target buf.old) }
+    ensures { (result ≡ number_out (list_of cell target (length buf.old))) × (buf.new ≡ afterwards (list_of cell target (length buf.old)) cell target buf.old) }
 {
     number_out(hexagons::list(cell, target, buf))
 }
 
 #[unsafe(no_mangle)]
 pub extern "C" fn rg_list_short(cell: u64, buf: &mut [u64]) -> RgNumber
-    ensures { (result ≡ numberOut (listShortOf cell (length buf.old))) × (buf.new ≡ afterwards (listShortOf cell (length buf.old)) cell (resOf cell + 1) buf.old) }
+    ensures { (result ≡ number_out (list_short_of cell (length buf.old))) × (buf.new ≡ afterwards (list_short_of cell (length buf.old)) cell (res_of cell + 1) buf.old) }
 {
     number_out(hexagons::list_short(cell, buf))
 }
 
 #[unsafe(no_mangle)]
 pub extern "C" fn rg_child_at(cell: u64, target: u32, position: u64) -> RgNumber
-    ensures { result ≡ numberOut (childAtOf cell target position) }
+    ensures { result ≡ number_out (child_at_of cell target position) }
 {
     number_out(hexagons::child_at(cell, target, position))
 }
 
 #[unsafe(no_mangle)]
 pub extern "C" fn rg_position(first: u64, second: u64) -> RgNumber
-    ensures { result ≡ numberOut (position_of first second) }
+    ensures { result ≡ number_out (position_of first second) }
 {
     number_out(hexagons::position(first, second))
 }
 
 #[unsafe(no_mangle)]
 pub extern "C" fn rg_ancestor(cell: u64, resolution: u32) -> RgNumber
-    ensures { result ≡ numberOut (ancestorOf cell resolution) }
+    ensures { result ≡ number_out (ancestor_of cell resolution) }
 {
     number_out(hexagons::ancestor(cell, resolution))
 }

@@ -1,7 +1,7 @@
 // Exports on turns of cells, centres, the walk and the step.
 ghost use Rattle.std.specs.Prelude.{◌≡◌, true, false};
-ghost use Rattle.step_entries.specs.Steps.{turn_of, pentagonTurnOf, centreOf, walk_of, step_of};
-ghost use Rattle.outward.specs.Exports.{numberOut, pointOut, walkedOut, steppedOut};
+ghost use Rattle.step_entries.specs.Steps.{turn_of, pentagon_turn_of, centre_of, walk_of, step_of};
+ghost use Rattle.outward.specs.Exports.{number_out, point_out, walked_out, stepped_out};
 ghost use Rattle.rivetgnome.specs.Steps.{ReadsBackOut};
 ghost use Rattle.plane.specs.Directions.{triple};
 
@@ -12,35 +12,35 @@ use outward::{
 
 #[unsafe(no_mangle)]
 pub extern "C" fn rg_turn_ccw(cell: u64, count: u32) -> RgNumber
-    ensures { result ≡ numberOut (turn_of true cell count) }
+    ensures { result ≡ number_out (turn_of true cell count) }
 {
     number_out(hexagons::turn_ccw(cell, count))
 }
 
 #[unsafe(no_mangle)]
 pub extern "C" fn rg_turn_cw(cell: u64, count: u32) -> RgNumber
-    ensures { result ≡ numberOut (turn_of false cell count) }
+    ensures { result ≡ number_out (turn_of false cell count) }
 {
     number_out(hexagons::turn_cw(cell, count))
 }
 
 #[unsafe(no_mangle)]
 pub extern "C" fn rg_pentagon_turn_ccw(cell: u64) -> RgNumber
-    ensures { result ≡ numberOut (pentagonTurnOf true cell) }
+    ensures { result ≡ number_out (pentagon_turn_of true cell) }
 {
     number_out(hexagons::pentagon_turn_ccw(cell))
 }
 
 #[unsafe(no_mangle)]
 pub extern "C" fn rg_pentagon_turn_cw(cell: u64) -> RgNumber
-    ensures { result ≡ numberOut (pentagonTurnOf false cell) }
+    ensures { result ≡ number_out (pentagon_turn_of false cell) }
 {
     number_out(hexagons::pentagon_turn_cw(cell))
 }
 
 #[unsafe(no_mangle)]
 pub extern "C" fn rg_centre(cell: u64) -> RgPoint
-    ensures { result ≡ pointOut (centreOf cell) }
+    ensures { result ≡ point_out (centre_of cell) }
 {
     point_out(hexagons::centre(cell))
 }
@@ -54,14 +54,14 @@ pub extern "C" fn rg_read_back(length: u32, i: i32, j: i32, k: i32) -> RgNumber
 
 #[unsafe(no_mangle)]
 pub extern "C" fn rg_walk(cell: u64, direction: u32) -> RgWalked
-    ensures { result ≡ walkedOut (walk_of cell direction) }
+    ensures { result ≡ walked_out (walk_of cell direction) }
 {
     walked_out(hexagons::walk(cell, direction))
 }
 
 #[unsafe(no_mangle)]
 pub extern "C" fn rg_step(cell: u64, direction: u32) -> RgStepped
-    ensures { result ≡ steppedOut (step_of cell direction) }
+    ensures { result ≡ stepped_out (step_of cell direction) }
 {
     stepped_out(hexagons::step(cell, direction))
 }

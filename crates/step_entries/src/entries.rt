@@ -1,9 +1,9 @@
 // Entries on turns of cells, centres, the walk and the step.
 ghost use Rattle.std.specs.Prelude.{◌≡◌, true, false};
-ghost use Rattle.index.specs.Check.{checkOf, told};
-ghost use Rattle.entry.specs.Answers.{toldNumber, toldPoint, toldWalked, toldStepped};
-ghost use Rattle.grid.specs.Steps.{toldStep};
-ghost use Rattle.step_entries.specs.Steps.{turn_of, pentagonTurnOf, centreOf, ReadsBack, walk_of, step_of};
+ghost use Rattle.index.specs.Check.{check_of, told};
+ghost use Rattle.entry.specs.Answers.{number_told, point_told, walked_told, stepped_told};
+ghost use Rattle.grid.specs.Steps.{step_told};
+ghost use Rattle.step_entries.specs.Steps.{turn_of, pentagon_turn_of, centre_of, ReadsBack, walk_of, step_of};
 
 use centres::centre::Read;
 use entry::judge::{Heading, Place, locate, onward};
@@ -15,8 +15,8 @@ use plane::ijk::IJK;
 
 // The check is handed in, so that each entry has its own: one that entries share is a call, with its answer in memory.
 fn turn(raw: u64, a: index::Checked, count: u32, ccw: bool) -> Number
-    requires { told a ≡ checkOf raw }
-    ensures { toldNumber result ≡ turn_of ccw raw count }
+    requires { told a ≡ check_of raw }
+    ensures { number_told result ≡ turn_of ccw raw count }
 {
     let index::Checked::Valid(cell) = a else {
         return Number::Refused(a.refusal());
@@ -28,20 +28,20 @@ fn turn(raw: u64, a: index::Checked, count: u32, ccw: bool) -> Number
 }
 
 pub fn turn_ccw(raw: u64, count: u32) -> Number
-    ensures { toldNumber result ≡ turn_of true raw count }
+    ensures { number_told result ≡ turn_of true raw count }
 {
     turn(raw, index::check(raw), count, true)
 }
 
 pub fn turn_cw(raw: u64, count: u32) -> Number
-    ensures { toldNumber result ≡ turn_of false raw count }
+    ensures { number_told result ≡ turn_of false raw count }
 {
     turn(raw, index::check(raw), count, false)
 }
 
 fn pentagon_turn(raw: u64, a: index::Checked, ccw: bool) -> Number
-    requires { told a ≡ checkOf raw }
-    ensures { toldNumber result ≡ pentagonTurnOf ccw raw }
+    requires { told a ≡ check_of raw }
+    ensures { number_told result ≡ pentagon_turn_of ccw raw }
 {
     let index::Checked::Valid(cell) = a else {
         return Number::Refused(a.refusal());
@@ -50,19 +50,19 @@ fn pentagon_turn(raw: u64, a: index::Checked, ccw: bool) -> Number
 }
 
 pub fn pentagon_turn_ccw(raw: u64) -> Number
-    ensures { toldNumber result ≡ pentagonTurnOf true raw }
+    ensures { number_told result ≡ pentagon_turn_of true raw }
 {
     pentagon_turn(raw, index::check(raw), true)
 }
 
 pub fn pentagon_turn_cw(raw: u64) -> Number
-    ensures { toldNumber result ≡ pentagonTurnOf false raw }
+    ensures { number_told result ≡ pentagon_turn_of false raw }
 {
     pentagon_turn(raw, index::check(raw), false)
 }
 
 pub fn centre(raw: u64) -> Point
-    ensures { toldPoint result ≡ centreOf raw }
+    ensures { point_told result ≡ centre_of raw }
 {
     let a = index::check(raw);
     let index::Checked::Valid(cell) = a else {
@@ -72,7 +72,7 @@ pub fn centre(raw: u64) -> Point
 }
 
 pub fn read_back(length: u32, p: IJK) -> Number
-    ensures { ReadsBack length p (toldNumber result) }
+    ensures { ReadsBack length p (number_told result) }
 {
     if 15 < length {
         return Number::Refused(refusal(8));
@@ -89,7 +89,7 @@ pub fn read_back(length: u32, p: IJK) -> Number
 }
 
 pub fn walk(raw: u64, direction: u32) -> Walked
-    ensures { toldWalked result ≡ walk_of raw direction }
+    ensures { walked_told result ≡ walk_of raw direction }
 {
     let a = index::check(raw);
     let index::Checked::Valid(cell) = a else {
@@ -104,7 +104,7 @@ pub fn walk(raw: u64, direction: u32) -> Walked
 }
 
 pub fn step(raw: u64, direction: u32) -> Stepped
-    ensures { toldStepped result ≡ step_of raw direction }
+    ensures { stepped_told result ≡ step_of raw direction }
 {
     let a = index::check(raw);
     let index::Checked::Valid(cell) = a else {
@@ -119,7 +119,7 @@ pub fn step(raw: u64, direction: u32) -> Stepped
 
 // The refusal gets its number.
 fn stepped(s: grid::Stepped) -> Stepped
-    ensures { toldStepped result ≡ toldStep s }
+    ensures { stepped_told result ≡ step_told s }
 {
     match s {
         grid::Stepped::Inside(cell, turn) => Stepped::Inside(number_of(cell), turn as u32),

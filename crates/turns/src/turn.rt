@@ -1,11 +1,11 @@
 // Turns of cells (index/bits.rs).
 ghost use Rattle.std.specs.Prelude.{◌≡◌, true, map, ℕ, ◌^◌, ◌≤◌, ◌<◌};
 ghost use Rattle.plane.specs.Directions.{turns};
-ghost use Rattle.index.specs.Layout.{Valid, resOf, digit};
+ghost use Rattle.index.specs.Layout.{Valid, res_of, digit};
 ghost use Rattle.index.specs.View.{used};
 ghost use Rattle.index.specs.Written.{WithDigits};
 ghost use Rattle.index.specs.Words.{Each};
-ghost use Rattle.turns.specs.Turns.{turnedBy, pentagonTurned};
+ghost use Rattle.turns.specs.Turns.{turned_by, pentagon_turned};
 ghost use Rattle.turns.specs.Moves.{down, up, flip};
 
 use index::Cell;
@@ -48,8 +48,8 @@ fn turn_word(x: u64, count: u64) -> u64
 
 // A number with each used digit turned; under a pentagon base cell it need be no cell, before or after.
 pub fn turn_digits(n: u64, ccw: bool, count: u8) -> u64
-    requires { ((s : ℕ) → resOf n < s → s ≤ 15 → digit n s ≡ 7) × (count ≤ 5) }
-    ensures { WithDigits n (map (turns ccw count) (used n (resOf n))) result }
+    requires { ((s : ℕ) → res_of n < s → s ≤ 15 → digit n s ≡ 7) × (count ≤ 5) }
+    ensures { WithDigits n (map (turns ccw count) (used n (res_of n))) result }
 {
     let k = count as u64;
     let x = n % DIGITS_END;
@@ -59,7 +59,7 @@ pub fn turn_digits(n: u64, ccw: bool, count: u8) -> u64
 // A cell turned by a count: a raw number.
 pub fn rotate60(c: Cell, ccw: bool, count: u8) -> u64
     requires { Valid c.0 × (count ≤ 5) }
-    ensures { result ≡ turnedBy ccw count c.0 }
+    ensures { result ≡ turned_by ccw count c.0 }
 {
     turn_digits(number_of(c), ccw, count)
 }
@@ -67,7 +67,7 @@ pub fn rotate60(c: Cell, ccw: bool, count: u8) -> u64
 // The pentagon turn: twice where one turn takes the first digit that is not 0 to 1.
 pub fn pentagon_rotate60(c: Cell, ccw: bool) -> u64
     requires { Valid c.0 }
-    ensures { result ≡ pentagonTurned ccw c.0 }
+    ensures { result ≡ pentagon_turned ccw c.0 }
 {
     let before_one = sel(ccw, 3, 5);
     let count = sel(first_direction(number_of(c)) == before_one, 2, 1);

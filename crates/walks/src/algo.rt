@@ -1,7 +1,7 @@
 // The digit walk (grid/algo.rs).
 ghost use Rattle.std.specs.Prelude.{◌≡◌, cond, ◌<◌};
 ghost use Rattle.index.specs.Layout.{Valid};
-ghost use Rattle.walks.specs.Walks.{walkedOf, carryOf};
+ghost use Rattle.walks.specs.Walks.{walked_of, carry_of};
 
 use index::{Cell, inside};
 use plane::direction;
@@ -65,7 +65,7 @@ pub struct Walked {
 // Digits change from the finest upward until the adjustment is 0.
 pub fn walk(c: Cell, d: Direction) -> Walked
     requires { Valid c.0 × (d.0 < 7) }
-    ensures { (result.number ≡ walkedOf c.0 d.0) × (result.carry.0 ≡ carryOf c.0 d.0) }
+    ensures { (result.number ≡ walked_of c.0 d.0) × (result.carry.0 ≡ carry_of c.0 d.0) }
 {
     let direction_ii = NEW_DIRECTION_II;
     let direction_iii = NEW_DIRECTION_III;

@@ -3,7 +3,7 @@ use mathlib.Core.Path.{◌≡◌, refl}
 use mathlib.Core.List.{[], ◌∷◌}
 use lib.IntN.{pos, negsuc}
 use Rattle.words.specs.Numeral.{digits, onward, hexadecimal, natural64, natural32, integer32}
-use Rattle.words.specs.Lines.{partsFrom, words_of}
+use Rattle.words.specs.Lines.{parts_from, words_of}
 use Rattle.words.specs.declared.word.Number.{Number}
 use Rattle.words.specs.declared.word.Small.{Small}
 use Rattle.words.specs.declared.word.Signed.{Signed}
@@ -49,7 +49,7 @@ pub record Examples : Type 0 where
   pub blanks : words_of (97 ∷ 32 ∷ 32 ∷ 98 ∷ 32 ∷ []) ≡ (97 ∷ []) ∷ [] ∷ (98 ∷ []) ∷ [] ∷ []
 
 pub examples : Examples
-unfolding digits onward partsFrom
+unfolding digits onward parts_from
 examples =
     record {
       zero_word = refl;

@@ -9,7 +9,7 @@ use native.Mathlib.Omega.{arith}
 use lib.Dec.{ltb}
 use lib.ListN.{length, length-append}
 use borrow.Author.Tests.{lt-ltb, le-ltb, ltb-true}
-use Rattle.words.specs.Numeral.{digitOf, digits, onward, value}
+use Rattle.words.specs.Numeral.{digit_of, digits, onward, value}
 use Rattle.words.specs.Reading.{Beyond, Within}
 
 pub and_true : (t : Bool) → t && true ≡ t
@@ -29,16 +29,16 @@ and_both true t h = (refl, h)
 and_both false true h = (h, refl)
 and_both false false h = (h, h)
 
-pub digits_snoc : (base : ℕ) (bs : List ℕ) (b : ℕ) → digits base (bs ++ (b ∷ [])) ≡ digits base bs && ltb (digitOf b) base
+pub digits_snoc : (base : ℕ) (bs : List ℕ) (b : ℕ) → digits base (bs ++ (b ∷ [])) ≡ digits base bs && ltb (digit_of b) base
 unfolding digits
-digits_snoc base [] b = and_true (ltb (digitOf b) base)
+digits_snoc base [] b = and_true (ltb (digit_of b) base)
 digits_snoc base (a ∷ bs) b =
-    ap (λ (t : Bool). ltb (digitOf a) base && t) (digits_snoc base bs b) ∙ sym (and_assoc (ltb (digitOf a) base) (digits base bs) (ltb (digitOf b) base))
+    ap (λ (t : Bool). ltb (digit_of a) base && t) (digits_snoc base bs b) ∙ sym (and_assoc (ltb (digit_of a) base) (digits base bs) (ltb (digit_of b) base))
 
-pub onward_snoc : (base n : ℕ) (bs : List ℕ) (b : ℕ) → onward base n (bs ++ (b ∷ [])) ≡ onward base n bs * base + digitOf b
+pub onward_snoc : (base n : ℕ) (bs : List ℕ) (b : ℕ) → onward base n (bs ++ (b ∷ [])) ≡ onward base n bs * base + digit_of b
 unfolding onward
 onward_snoc base n [] b = refl
-onward_snoc base n (a ∷ bs) b = onward_snoc base (n * base + digitOf a) bs b
+onward_snoc base n (a ∷ bs) b = onward_snoc base (n * base + digit_of a) bs b
 
 pub length_snoc : (bs : List ℕ) (b : ℕ) → length (bs ++ (b ∷ [])) ≡ length bs + 1
 length_snoc bs b = length-append bs (b ∷ [])
@@ -48,22 +48,22 @@ grows n base d h = let p : n * 1 ≤ n * base = mul-le-mul_left n (omega arith) 
 
 module _ (base : ℕ) (bs : List ℕ) (b : ℕ) where
   pub beyond_stays : 1 < base → Beyond base bs → Beyond base (bs ++ (b ∷ []))
-  beyond_stays h (inl e) = inl (digits_snoc base bs b ∙ ap (λ (t : Bool). t && ltb (digitOf b) base) e)
-  beyond_stays h (inr l) = inr (rw (onward_snoc base 0 bs b) (omega (arith, grows (value base bs) base (digitOf b) h)))
+  beyond_stays h (inl e) = inl (digits_snoc base bs b ∙ ap (λ (t : Bool). t && ltb (digit_of b) base) e)
+  beyond_stays h (inr l) = inr (rw (onward_snoc base 0 bs b) (omega (arith, grows (value base bs) base (digit_of b) h)))
 
-  pub beyond_digit : base ≤ digitOf b → Beyond base (bs ++ (b ∷ []))
-  beyond_digit h = inl (digits_snoc base bs b ∙ ap (λ (t : Bool). digits base bs && t) (le-ltb (digitOf b) base h) ∙ and_false (digits base bs))
+  pub beyond_digit : base ≤ digit_of b → Beyond base (bs ++ (b ∷ []))
+  beyond_digit h = inl (digits_snoc base bs b ∙ ap (λ (t : Bool). digits base bs && t) (le-ltb (digit_of b) base h) ∙ and_false (digits base bs))
 
   module _ (n : ℕ) (w : Within base n bs) where
-    value_snoc : value base (bs ++ (b ∷ [])) ≡ n * base + digitOf b
-    value_snoc = onward_snoc base 0 bs b ∙ ap (λ (v : ℕ). v * base + digitOf b) w.1
+    value_snoc : value base (bs ++ (b ∷ [])) ≡ n * base + digit_of b
+    value_snoc = onward_snoc base 0 bs b ∙ ap (λ (v : ℕ). v * base + digit_of b) w.1
 
-    pub beyond_large : 2 ^ 64 ≤ n * base + digitOf b → Beyond base (bs ++ (b ∷ []))
+    pub beyond_large : 2 ^ 64 ≤ n * base + digit_of b → Beyond base (bs ++ (b ∷ []))
     beyond_large h = inr (rw value_snoc h)
 
-    pub within_more : digitOf b < base → Within base (n * base + digitOf b) (bs ++ (b ∷ []))
+    pub within_more : digit_of b < base → Within base (n * base + digit_of b) (bs ++ (b ∷ []))
     within_more h =
-        (digits_snoc base bs b ∙ ap (λ (t : Bool). t && ltb (digitOf b) base) w.0 ∙ lt-ltb (digitOf b) base h, value_snoc)
+        (digits_snoc base bs b ∙ ap (λ (t : Bool). t && ltb (digit_of b) base) w.0 ∙ lt-ltb (digit_of b) base h, value_snoc)
 
 module _ (base : ℕ) (some : 1 < base) where
   -- the test that a digit more fits 64 bits, both ways
@@ -78,9 +78,9 @@ module _ (base : ℕ) (some : 1 < base) where
   unfolding digits onward
   onward_below n [] h = rw pow-zero (omega arith)
   onward_below n (b ∷ bs) h =
-      let e = and_both (ltb (digitOf b) base) (digits base bs) h in
-      let l = ltb-true (digitOf b) base e.0 in
-      let step : n * base + digitOf b + 1 ≤ (n + 1) * base = omega arith in
-      let p : (n * base + digitOf b + 1) * base ^ length bs ≤ (n + 1) * base * base ^ length bs = mul-le-mul_right (base ^ length bs) step in
-      let q = onward_below (n * base + digitOf b) bs e.1 in
+      let e = and_both (ltb (digit_of b) base) (digits base bs) h in
+      let l = ltb-true (digit_of b) base e.0 in
+      let step : n * base + digit_of b + 1 ≤ (n + 1) * base = omega arith in
+      let p : (n * base + digit_of b + 1) * base ^ length bs ≤ (n + 1) * base * base ^ length bs = mul-le-mul_right (base ^ length bs) step in
+      let q = onward_below (n * base + digit_of b) bs e.1 in
       rw pow-suc (omega (arith, p, q))

@@ -5,7 +5,7 @@ use mathlib.Core.Bool.{Bool, true, false, not}
 use mathlib.Core.List.{List, [], ◌∷◌, ◌++◌, append_assoc, append-nil}
 use lib.Dec.{eqb}
 use borrow.Author.Tests.{eqb-true}
-use Rattle.words.specs.Lines.{Parts, part, partsFrom, parts, spaced, plain, all_plain}
+use Rattle.words.specs.Lines.{Parts, part, parts_from, parts, spaced, plain, all_plain}
 use Rattle.words.proofs.Numerals.{and_both}
 
 spaced_snoc : (ws : List (List ℕ)) (w : List ℕ) → spaced (ws ++ (w ∷ [])) ≡ spaced ws ++ (w ++ (32 ∷ []))
@@ -29,8 +29,8 @@ one_more p b true e =
     rw (e, append-nil, spaced_snoc p.ended p.next, z) (sym (append_assoc (spaced p.ended) p.next (32 ∷ [])))
 one_more p b false e = rw e (sym (append_assoc (spaced p.ended) p.next (b ∷ [])))
 
-onward_joined : (p : Parts) (bs : List ℕ) → spaced (partsFrom p bs).ended ++ (partsFrom p bs).next ≡ (spaced p.ended ++ p.next) ++ bs
-unfolding partsFrom
+onward_joined : (p : Parts) (bs : List ℕ) → spaced (parts_from p bs).ended ++ (parts_from p bs).next ≡ (spaced p.ended ++ p.next) ++ bs
+unfolding parts_from
 onward_joined p [] = sym (append-nil (spaced p.ended ++ p.next))
 onward_joined p (b ∷ bs) =
     onward_joined (part p b) bs
@@ -48,8 +48,8 @@ one_plain p b true e h n = rw e (all_plain_snoc p.ended p.next h n, refl)
 one_plain p b false e h n = rw e (h, plain_snoc p.next b n e)
 
 onward_plain : (p : Parts) (bs : List ℕ) → all_plain p.ended ≡ true → plain p.next ≡ true
-    → (all_plain (partsFrom p bs).ended ≡ true) × (plain (partsFrom p bs).next ≡ true)
-unfolding partsFrom
+    → (all_plain (parts_from p bs).ended ≡ true) × (plain (parts_from p bs).next ≡ true)
+unfolding parts_from
 onward_plain p [] h n = (h, n)
 onward_plain p (b ∷ bs) h n = let k = one_plain p b (eqb b 32) refl h n in onward_plain (part p b) bs k.0 k.1
 

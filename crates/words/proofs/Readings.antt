@@ -12,7 +12,7 @@ use lib.Dec.{ltb, eqb}
 use lib.ListN.{length}
 use lib.IntN.{pos}
 use borrow.Author.Tests.{lt-ltb, le-ltb, ltb-true, le-leb, lt-leb, eqb-true, ne_eqb}
-use Rattle.words.specs.Numeral.{digitOf, digits, value, numeral, hexadecimal, natural64, natural32, integer32, minus, bare}
+use Rattle.words.specs.Numeral.{digit_of, digits, value, numeral, hexadecimal, natural64, natural32, integer32, minus, bare}
 use Rattle.words.specs.Reading.{Beyond, Within, held, Spells, Reads, natural, negated}
 use Rattle.words.specs.declared.word.Digits.{Digits}
 use Rattle.words.specs.declared.word.Word.{Word}
@@ -151,7 +151,7 @@ hexadecimal_short bs h =
 pub natural_minus : (bs : List ℕ) → minus bs ≡ true → Number.Nothing ≡ natural64 bs
 unfolding digits
 natural_minus [] h = refl
-natural_minus (b ∷ bs) h = natural_beyond 10 (b ∷ bs) (inl (ap (λ (x : ℕ). ltb (digitOf x) 10 && digits 10 bs) (eqb-true b 45 h)))
+natural_minus (b ∷ bs) h = natural_beyond 10 (b ∷ bs) (inl (ap (λ (x : ℕ). ltb (digit_of x) 10 && digits 10 bs) (eqb-true b 45 h)))
 
 pub bare_same : (bs : List ℕ) → minus bs ≡ false → bare bs ≡ bs
 bare_same [] h = refl

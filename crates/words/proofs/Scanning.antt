@@ -11,19 +11,19 @@ use lib.Dec.{eqb}
 use lib.ListN.{length, take, drop, get_or, set, length-append, length-set, get_or-append}
 use lib.Seq.{get_or-append-add, get_or-set_same, get_or-set_other, take-suc-set, take_all, take-append-le, drop-cons}
 use borrow.Author.Tests.{eq-eqb, ne_eqb}
-use Rattle.words.specs.Lines.{Parts, part, partsFrom, parts, words_of, starts_with}
+use Rattle.words.specs.Lines.{Parts, part, parts_from, parts, words_of, starts_with}
 use Rattle.words.specs.Reading.{unread, Reads, Begun, Holds, Scans, Whole, Notes, Closes}
 use Rattle.words.specs.declared.word.Word.{Word}
 use Rattle.words.specs.declared.line.Line.{Line}
 use Rattle.words.proofs.Numerals.{and_true, and_false}
 
-partsFrom_snoc : (p : Parts) (bs : List ℕ) (b : ℕ) → partsFrom p (bs ++ (b ∷ [])) ≡ part (partsFrom p bs) b
-unfolding partsFrom
-partsFrom_snoc p [] b = refl
-partsFrom_snoc p (a ∷ bs) b = partsFrom_snoc (part p a) bs b
+parts_from_snoc : (p : Parts) (bs : List ℕ) (b : ℕ) → parts_from p (bs ++ (b ∷ [])) ≡ part (parts_from p bs) b
+unfolding parts_from
+parts_from_snoc p [] b = refl
+parts_from_snoc p (a ∷ bs) b = parts_from_snoc (part p a) bs b
 
 parts_snoc : (bs : List ℕ) (b : ℕ) → parts (bs ++ (b ∷ [])) ≡ part (parts bs) b
-parts_snoc bs b = partsFrom_snoc (record { ended = []; next = [] }) bs b
+parts_snoc bs b = parts_from_snoc (record { ended = []; next = [] }) bs b
 
 length_snoc : {A : Type 0} (xs : List A) (x : A) → length (xs ++ (x ∷ [])) ≡ length xs + 1
 length_snoc xs x = length-append xs (x ∷ [])

@@ -12,12 +12,12 @@ part p b =
     (record { ended = p.ended ++ (p.next ∷ []); next = [] })
     (record { ended = p.ended; next = p.next ++ (b ∷ []) })
 
-unfoldable pub partsFrom : Parts → List ℕ → Parts
-partsFrom p [] = p
-partsFrom p (b ∷ bs) = partsFrom (part p b) bs
+unfoldable pub parts_from : Parts → List ℕ → Parts
+parts_from p [] = p
+parts_from p (b ∷ bs) = parts_from (part p b) bs
 
 abbrev pub parts : List ℕ → Parts
-parts bs = partsFrom (record { ended = []; next = [] }) bs
+parts bs = parts_from (record { ended = []; next = [] }) bs
 
 -- the end of the line ends its last word
 abbrev pub words_of : List ℕ → List (List ℕ)

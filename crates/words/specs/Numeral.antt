@@ -6,18 +6,18 @@ use Rattle.words.specs.declared.word.Small.{Small}
 use Rattle.words.specs.declared.word.Signed.{Signed}
 
 -- `0` to `9`, `a` to `f`; 16 for any other byte
-abbrev pub digitOf : ℕ → ℕ
-digitOf b = cond (ltb b 48) 16 (cond (leb b 57) (b - 48) (cond (ltb b 97) 16 (cond (leb b 102) (b - 97 + 10) 16)))
+abbrev pub digit_of : ℕ → ℕ
+digit_of b = cond (ltb b 48) 16 (cond (leb b 57) (b - 48) (cond (ltb b 97) 16 (cond (leb b 102) (b - 97 + 10) 16)))
 
 -- each byte is a digit of the base
 unfoldable pub digits : ℕ → List ℕ → Bool
 digits base [] = true
-digits base (b ∷ bs) = ltb (digitOf b) base && digits base bs
+digits base (b ∷ bs) = ltb (digit_of b) base && digits base bs
 
 -- the number n with digits written after it
 unfoldable pub onward : ℕ → ℕ → List ℕ → ℕ
 onward base n [] = n
-onward base n (b ∷ bs) = onward base (n * base + digitOf b) bs
+onward base n (b ∷ bs) = onward base (n * base + digit_of b) bs
 
 abbrev pub value : ℕ → List ℕ → ℕ
 value base bs = onward base 0 bs

@@ -1,6 +1,6 @@
 // A word: its readings as a number, kept up at each byte.
 ghost use Rattle.std.specs.Prelude.{◌≡◌, true, List, [], ◌∷◌, ◌++◌, ℕ, ◌+◌, ◌<◌, ◌≤◌, min};
-ghost use Rattle.words.specs.Numeral.{digitOf, hexadecimal, natural64, natural32, integer32};
+ghost use Rattle.words.specs.Numeral.{digit_of, hexadecimal, natural64, natural32, integer32};
 ghost use Rattle.words.specs.Reading.{Spells, Reads, natural, negated};
 
 #[derive(Drop)]
@@ -40,7 +40,7 @@ pub struct Word {
 
 // 16 for a byte that is no lower-case hexadecimal digit.
 fn digit(b: u8) -> u64
-    ensures { result ≡ digitOf b }
+    ensures { result ≡ digit_of b }
 {
     if b < b'0' {
         return 16;

@@ -3,14 +3,14 @@ use borrow.Author.Rules.{rules}
 use Prim.Native.Nat.{ℕ, ◌-◌}
 use native.Mathlib.Omega.{arith}
 use Rattle.index.specs.Refusals.{Outcome}
-use Rattle.cell_entries.specs.Cells.{ancestorOf}
+use Rattle.cell_entries.specs.Cells.{ancestor_of}
 use Rattle.block_entries.proofs.Fills as fills
 use Rattle.block_entries.proofs.Fills.{Filled}
 use Rattle.block_entries.proofs.entries.ancestor_block.Statement.{statement}
 use Rattle.block_entries.proofs.entries.ancestor_block.Tie as tie
 
 abbrev at : ℕ → ℕ → Outcome ℕ
-at coarser raw = ancestorOf raw coarser
+at coarser raw = ancestor_of raw coarser
 
 abbrev invariant_loop : tie.invariant_loop
 invariant_loop cells coarser values₀ refusals₀ n i₀ values refusals i = Filled (at coarser) cells values₀ refusals₀ values refusals i

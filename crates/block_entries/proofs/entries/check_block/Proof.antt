@@ -2,14 +2,14 @@
 use borrow.Author.Rules.{rules}
 use Prim.Native.Nat.{◌-◌}
 use native.Mathlib.Omega.{arith}
-use Rattle.index.specs.Check.{checkOf}
+use Rattle.index.specs.Check.{check_of}
 use Rattle.block_entries.proofs.Fills as fills
 use Rattle.block_entries.proofs.Fills.{Filled}
 use Rattle.block_entries.proofs.entries.check_block.Statement.{statement}
 use Rattle.block_entries.proofs.entries.check_block.Tie as tie
 
 abbrev invariant_loop : tie.invariant_loop
-invariant_loop cells values₀ refusals₀ n i₀ values refusals i = Filled checkOf cells values₀ refusals₀ values refusals i
+invariant_loop cells values₀ refusals₀ n i₀ values refusals i = Filled check_of cells values₀ refusals₀ values refusals i
 
 abbrev decreases_loop : tie.decreases_loop
 decreases_loop cells values₀ refusals₀ n i₀ values refusals i = n - i
@@ -24,13 +24,13 @@ returns : tie.Need-returns invariant_loop decreases_loop
 returns c =
     let t = c.before.before in
     let s = t.before.before.before.before.args in
-    fills.no_room checkOf s.cells.now s.values.now s.refusals.now t.is-short.result _ t.is-short.ensures c.before.if1.true c.refusal.ensures
+    fills.no_room check_of s.cells.now s.values.now s.refusals.now t.is-short.result _ t.is-short.ensures c.before.if1.true c.refusal.ensures
 
 loop-holds : tie.Need-loop-init invariant_loop decreases_loop
 loop-holds c =
     let t = c.before in
     let s = t.before.before.before.before.args in
-    fills.begin checkOf s.cells.now s.values.now s.refusals.now t.is-short.result t.is-short.ensures c.if1.false
+    fills.begin check_of s.cells.now s.values.now s.refusals.now t.is-short.result t.is-short.ensures c.if1.false
 
 mul-kept : tie.Need-overflow-mul-kept invariant_loop decreases_loop
 mul-kept c = search rules
@@ -70,7 +70,7 @@ loop-again c =
     let a = c.before.before in
     let t = a.before.before in
     let s = t.before.before.before.before.before.before.before.args in
-    fills.again checkOf s.cells.now s.values.now s.refusals.now _ _ _ t.before.loop.invariant _ _ _ t.loop-test.true a.kept.ensures c.before.value.ensures c.refusal2.ensures
+    fills.again check_of s.cells.now s.values.now s.refusals.now _ _ _ t.before.loop.invariant _ _ _ t.loop-test.true a.kept.ensures c.before.value.ensures c.refusal2.ensures
 
 same_length : tie.Need-same-length invariant_loop decreases_loop
 same_length c = c.before.loop.invariant.long
@@ -81,7 +81,7 @@ same-length-2 c = c.before.loop.invariant.long_too
 returns-2 : tie.Need-returns-2 invariant_loop decreases_loop
 returns-2 c =
     let s = c.before.before.before.before.before.before.before.args in
-    fills.end checkOf s.cells.now s.values.now s.refusals.now _ _ _ c.before.loop.invariant c.loop-test.false
+    fills.end check_of s.cells.now s.values.now s.refusals.now _ _ _ c.before.loop.invariant c.loop-test.false
 
 pub check_block_spec : {M : Type 1} → statement M
 check_block_spec =

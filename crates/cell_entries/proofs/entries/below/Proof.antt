@@ -9,10 +9,10 @@ use denote.Enum.Declared
 use types.Run
 use Rattle.index.specs.Layout.{Valid}
 use Rattle.index.specs.Refusals.{Rule, ◌when◌, refused, judged}
-use Rattle.index.specs.Check.{cellRules}
+use Rattle.index.specs.Check.{cell_rules}
 use Rattle.index.proofs.Answers.{of_cell, of_refusal, past_cell, hit_cell}
-use Rattle.descent.specs.Positions.{under, position_of, foundOf}
-use Rattle.ranks.specs.Told.{toldFound}
+use Rattle.descent.specs.Positions.{under, position_of, found_of}
+use Rattle.ranks.specs.Told.{found_told}
 use Rattle.ranks.specs.declared.rank.Found.{Found}
 use Rattle.ranks.specs.contracts.rank.Found as found_type
 use Rattle.cell_entries.proofs.entries.below.Statement.{statement}
@@ -56,7 +56,7 @@ second : (c : tie.After-known-told2) → let y = c.before.before.before.before.b
 second c = let s = c.before.before.before.before.before.before in of_cell _ s.args.b _ c.before.b.given.1 s.requires.1
 
 -- a second cell that is not under the first
-none : (n y : ℕ) (f : Found) → Run.OneOf (1 ∷ []) (Declared.tag_of found_type.the_type f) → toldFound f ≡ foundOf n y → foundOf n y ≡ refused 12
+none : (n y : ℕ) (f : Found) → Run.OneOf (1 ∷ []) (Declared.tag_of found_type.the_type f) → found_told f ≡ found_of n y → found_of n y ≡ refused 12
 none n y (Found.At p) o e = absurd (suc-ne-zero 0 (sym o))
 none n y Found.NotUnder o e = sym e
 
@@ -65,7 +65,7 @@ unfolding last
 returns c =
     let t = c.before.before.before in
     let s = t.args in
-    ap refused c.refusal.ensures ∙ sym (hit_cell s.first (cellRules s.second ++ last s.first s.second) _ _ (of_refusal s.first s.a c.before.before.match.keys2 t.requires.0))
+    ap refused c.refusal.ensures ∙ sym (hit_cell s.first (cell_rules s.second ++ last s.first s.second) _ _ (of_refusal s.first s.a c.before.before.match.keys2 t.requires.0))
 
 returns-2 : tie.Need-returns-2
 unfolding last
@@ -74,7 +74,7 @@ returns-2 c =
     let t = d.before.before.before in
     let s = t.args in
     ap refused c.refusal2.ensures
-    ∙ sym (past_cell s.first (cellRules s.second ++ last s.first s.second) _ (cell d).1 ∙ hit_cell s.second (last s.first s.second) _ _ (of_refusal s.second s.b c.before.before.match2.keys2 t.requires.1))
+    ∙ sym (past_cell s.first (cell_rules s.second ++ last s.first s.second) _ (cell d).1 ∙ hit_cell s.second (last s.first s.second) _ _ (of_refusal s.second s.b c.before.before.match2.keys2 t.requires.1))
 
 position-requires : tie.Need-position-requires
 position-requires c κs =
@@ -83,16 +83,16 @@ position-requires c κs =
     (subst Valid (sym v.0) v.1, subst Valid (sym w.0) w.1)
 
 -- the rules of both cells are passed
-both : (c : tie.After-known-told2) → let s = c.before.before.before.before.before.before.args in judged (cellRules s.first ++ (cellRules s.second ++ last s.first s.second)) (position_of s.first s.second) ≡ foundOf s.first s.second
+both : (c : tie.After-known-told2) → let s = c.before.before.before.before.before.before.args in judged (cell_rules s.first ++ (cell_rules s.second ++ last s.first s.second)) (position_of s.first s.second) ≡ found_of s.first s.second
 unfolding last
 both c =
     let d = c.before.before.before in
     let s = d.before.before.before.args in
-    past_cell s.first (cellRules s.second ++ last s.first s.second) _ (cell d).1 ∙ past_cell s.second (last s.first s.second) _ (second c).1
+    past_cell s.first (cell_rules s.second ++ last s.first s.second) _ (cell d).1 ∙ past_cell s.second (last s.first s.second) _ (second c).1
 
 -- what the search found, of the numbers themselves
-told : (c : tie.After-position) → let s = c.before.before.before.before.before.before.before.args in toldFound c.position.result ≡ foundOf s.first s.second
-told c = c.position.ensures ∙ ap₂ foundOf (cell c.before.before.before.before).0 (second c.before).0
+told : (c : tie.After-position) → let s = c.before.before.before.before.before.before.before.args in found_told c.position.result ≡ found_of s.first s.second
+told c = c.position.ensures ∙ ap₂ found_of (cell c.before.before.before.before).0 (second c.before).0
 
 returns-3 : tie.Need-returns-3
 unfolding last
@@ -105,7 +105,7 @@ returns-4 : tie.Need-returns-4
 unfolding last
 returns-4 c =
     let p = c.before.before.before in
-    sym (both p.before ∙ sym (told p) ∙ ap toldFound c.before.f.given.1)
+    sym (both p.before ∙ sym (told p) ∙ ap found_told c.before.f.given.1)
 
 pub below_spec : {M : Type 1} → statement M
 below_spec =

@@ -9,7 +9,7 @@ use mathlib.Core.Bool.{not}
 use lib.Dec.{ltb}
 use borrow.Author.Tests.{lt-ltb, le-ltb}
 use Rattle.descent.specs.Descendants.{count_of}
-use Rattle.descent.specs.Positions.{childAt}
+use Rattle.descent.specs.Positions.{child_at}
 use Rattle.cell_entries.proofs.Finers.{Ready, ready, asked, refuse_finer, past_finer}
 use Rattle.cell_entries.proofs.entries.child_at.Statement.{statement}
 use Rattle.cell_entries.proofs.entries.child_at.Tie as tie
@@ -43,7 +43,7 @@ returns : tie.Need-returns
 returns c =
     let s = c.before.before.before.before.before.args in
     let a = c.before.before.before.finer in
-    refuse_finer s.raw s.target ((11 when not (ltb s.position (count_of s.raw s.target))) ∷ []) (childAt s.raw s.target s.position) a.result _ c.before.before.match.keys2 a.ensures c.refusal.ensures
+    refuse_finer s.raw s.target ((11 when not (ltb s.position (count_of s.raw s.target))) ∷ []) (child_at s.raw s.target s.position) a.result _ c.before.before.match.keys2 a.ensures c.refusal.ensures
 
 children-count-requires : tie.Need-children-count-requires
 children-count-requires c κs = asked _ _ _ _ (got c)
@@ -54,7 +54,7 @@ returns-2 c =
     let r = got c.before.before.before in
     let k = c.before.before.children-count.ensures ∙ ap₂ count_of r.cell r.target in
     ap refused c.refusal2.ensures
-    ∙ sym (past_finer s.raw s.target _ (childAt s.raw s.target s.position) r.clear ∙ hit _ _ [] _ (ap not (le-ltb _ _ (subst (λ (x : ℕ). x ≤ s.position) k c.before.if1.true))))
+    ∙ sym (past_finer s.raw s.target _ (child_at s.raw s.target s.position) r.clear ∙ hit _ _ [] _ (ap not (le-ltb _ _ (subst (λ (x : ℕ). x ≤ s.position) k c.before.if1.true))))
 
 child-at-requires : tie.Need-child-at-requires
 child-at-requires c κs =
@@ -67,8 +67,8 @@ returns-3 c =
     let s = c.before.before.before.before.before.before.before.before.before.args in
     let r = got c.before.before.before.before in
     let k = c.before.before.before.children-count.ensures ∙ ap₂ count_of r.cell r.target in
-    ap answered (c.number_of_lem.ensures ∙ c.before.child-at.ensures.0 ∙ ap₂ (λ (n t : ℕ). childAt n t s.position) r.cell r.target)
-    ∙ sym (past_finer s.raw s.target _ (childAt s.raw s.target s.position) r.clear ∙ past _ _ [] _ (ap not (lt-ltb _ _ (subst (λ (x : ℕ). s.position < x) k c.before.before.if1.false))) ∙ none_answered _)
+    ap answered (c.number_of_lem.ensures ∙ c.before.child-at.ensures.0 ∙ ap₂ (λ (n t : ℕ). child_at n t s.position) r.cell r.target)
+    ∙ sym (past_finer s.raw s.target _ (child_at s.raw s.target s.position) r.clear ∙ past _ _ [] _ (ap not (lt-ltb _ _ (subst (λ (x : ℕ). s.position < x) k c.before.before.if1.false))) ∙ none_answered _)
 
 pub child_at_spec : {M : Type 1} → statement M
 child_at_spec =

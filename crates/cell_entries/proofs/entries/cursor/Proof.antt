@@ -5,7 +5,7 @@ use mathlib.Core.List.{[]}
 use Prim.Native.Nat.{ℕ}
 use Rattle.index.specs.Refusals.{answered}
 use Rattle.index.proofs.Rules.{none_answered}
-use Rattle.children.specs.Cursors.{cursorAt}
+use Rattle.children.specs.Cursors.{cursor_after}
 use Rattle.cell_entries.proofs.Finers.{Ready, ready, asked, refuse_finer, past_finer}
 use Rattle.cell_entries.proofs.entries.cursor.Statement.{statement}
 use Rattle.cell_entries.proofs.entries.cursor.Tie as tie
@@ -33,7 +33,7 @@ returns : tie.Need-returns
 returns c =
     let s = c.before.before.before.before.before.args in
     let a = c.before.before.before.finer in
-    refuse_finer s.raw s.target [] (cursorAt s.raw s.target 0) a.result _ c.before.before.match.keys2 a.ensures c.refusal.ensures
+    refuse_finer s.raw s.target [] (cursor_after s.raw s.target 0) a.result _ c.before.before.match.keys2 a.ensures c.refusal.ensures
 
 fresh-requires : tie.Need-fresh-requires
 fresh-requires c κs = asked _ _ _ _ (got c)
@@ -42,7 +42,7 @@ returns-2 : tie.Need-returns-2
 returns-2 c =
     let s = c.before.before.before.before.before.before.args in
     let r = got c.before in
-    ap answered (c.fresh.ensures ∙ ap₂ (λ (n t : ℕ). cursorAt n t 0) r.cell r.target) ∙ sym (past_finer s.raw s.target [] _ r.clear ∙ none_answered _)
+    ap answered (c.fresh.ensures ∙ ap₂ (λ (n t : ℕ). cursor_after n t 0) r.cell r.target) ∙ sym (past_finer s.raw s.target [] _ r.clear ∙ none_answered _)
 
 pub cursor_spec : {M : Type 1} → statement M
 cursor_spec =

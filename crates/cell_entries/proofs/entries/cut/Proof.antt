@@ -5,12 +5,12 @@ use mathlib.Core.Path.{◌≡◌, sym, ap, ap₂, ◌∙◌, subst}
 use mathlib.Core.List.{List, [], ◌∷◌}
 use Prim.Native.Nat.{ℕ, ◌≤◌, ◌<◌}
 use lib.Dec.{ltb}
-use Rattle.index.specs.Layout.{Valid, resOf}
+use Rattle.index.specs.Layout.{Valid, res_of}
 use Rattle.index.specs.Refusals.{Rule, ◌when◌, answered, refused}
-use Rattle.index.specs.Ancestor.{ancestorOf}
+use Rattle.index.specs.Ancestor.{ancestor_of}
 use Rattle.index.proofs.Answers.{of_cell, of_refusal, past_cell, hit_cell}
 use Rattle.index.proofs.Rules.{past, hit, none_answered}
-use Rattle.entry.specs.Rules.{resolutionRule}
+use Rattle.entry.specs.Rules.{resolution_rule}
 use Rattle.cell_entries.proofs.entries.cut.Statement.{statement}
 use Rattle.cell_entries.proofs.entries.cut.Tie as tie
 
@@ -42,15 +42,15 @@ number-of-requires : tie.Need-number-of-requires
 number-of-requires c κs = search rules
 
 more : ℕ → ℕ → List Rule
-more n r = resolutionRule r ∷ (9 when ltb (resOf n) r) ∷ []
+more n r = resolution_rule r ∷ (9 when ltb (res_of n) r) ∷ []
 
 -- the arm of a cell
 cell : (c : tie.After-known-told) → let n = c.before.before.before.args.raw in (c.before.a.given.0.0.0 ≡ n) × Valid n
 cell c = let a = c.before.before.before in of_cell _ a.args.a _ c.before.a.given.1 a.requires
 
 -- the own resolution, as it was read
-own : (n r k m : ℕ) → n ≡ m → r ≡ resOf n → k ≡ r → k ≡ resOf m
-own n r k m e p q = q ∙ p ∙ ap resOf e
+own : (n r k m : ℕ) → n ≡ m → r ≡ res_of n → k ≡ r → k ≡ res_of m
+own n r k m e p q = q ∙ p ∙ ap res_of e
 
 returns : tie.Need-returns
 unfolding more
@@ -77,7 +77,7 @@ returns-3 c =
     ∙ sym (past_cell s.raw (more s.raw s.coarser) _ v.1 ∙ past _ _ _ _ (le-ltb _ _ c.before.before.before.before.if1.false) ∙ hit _ _ _ _ (lt-ltb _ _ (subst (λ (x : ℕ). x < s.coarser) k c.before.if2.true)))
 
 -- the wanted resolution is no finer than the cell's
-coarse : (c : tie.After-resolution) → let s = c.before.before.before.before.before.before.before.before.args in s.coarser ≤ resOf s.raw
+coarse : (c : tie.After-resolution) → let s = c.before.before.before.before.before.before.before.before.args in s.coarser ≤ res_of s.raw
 coarse c =
     let d = c.before.before.before.before.before in
     let s = d.before.before.before.args in
@@ -89,8 +89,8 @@ ancestor-requires c κs =
     let d = c.before.before.before.before.before in
     let s = d.before.before.before.args in
     let v = cell d in
-    subst (λ (n : ℕ). Valid n × (c.resolution.result.0 ≤ resOf n)) (sym v.0)
-    (v.1, subst (λ (r : ℕ). r ≤ resOf s.raw) (sym c.resolution.ensures) (coarse c))
+    subst (λ (n : ℕ). Valid n × (c.resolution.result.0 ≤ res_of n)) (sym v.0)
+    (v.1, subst (λ (r : ℕ). r ≤ res_of s.raw) (sym c.resolution.ensures) (coarse c))
 
 returns-4 : tie.Need-returns-4
 unfolding more
@@ -99,7 +99,7 @@ returns-4 c =
     let d = r.before.before.before.before.before in
     let s = d.before.before.before.args in
     let v = cell d in
-    ap answered (c.number_of_lem.ensures ∙ c.before.ancestor.ensures ∙ ap₂ ancestorOf v.0 r.resolution.ensures)
+    ap answered (c.number_of_lem.ensures ∙ c.before.ancestor.ensures ∙ ap₂ ancestor_of v.0 r.resolution.ensures)
     ∙ sym (past_cell s.raw (more s.raw s.coarser) _ v.1 ∙ past _ _ _ _ (le-ltb _ _ r.before.before.before.before.if1.false) ∙ past _ _ _ _ (le-ltb _ _ (coarse r)) ∙ none_answered _)
 
 pub cut_spec : {M : Type 1} → statement M

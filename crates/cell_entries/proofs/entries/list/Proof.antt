@@ -4,7 +4,7 @@ use mathlib.Core.Path.{sym}
 use mathlib.Core.List.{[], ◌∷◌}
 use lib.ListN.{length}
 use Rattle.descent.specs.Descendants.{count_of}
-use Rattle.cell_entries.specs.Cells.{roomRule}
+use Rattle.cell_entries.specs.Cells.{room_rule}
 use Rattle.cell_entries.proofs.Finers.{Ready, ready, asked, refuse_finer, past_finer}
 use Rattle.cell_entries.proofs.Rooms.{untouched, passed}
 use Rattle.cell_entries.proofs.entries.list.Statement.{statement}
@@ -37,7 +37,7 @@ returns c =
     let s = c.before.before.before.before.before.before.args in
     let b = s.buf.now in
     let a = c.before.before.before.finer in
-    let e = refuse_finer s.raw s.target (roomRule s.raw s.target (length b) ∷ []) (count_of s.raw s.target) a.result _ c.before.before.match.keys2 a.ensures c.refusal.ensures in
+    let e = refuse_finer s.raw s.target (room_rule s.raw s.target (length b) ∷ []) (count_of s.raw s.target) a.result _ c.before.before.match.keys2 a.ensures c.refusal.ensures in
     (e, untouched _ _ s.raw s.target b (sym e))
 
 fill-requires : tie.Need-fill-requires
@@ -49,7 +49,7 @@ returns-2 c =
     let s = d.before.before.before.before.before.before.args in
     let b = s.buf.now in
     let r = got d in
-    passed _ _ s.raw _ s.target b _ _ r.cell r.target (past_finer s.raw s.target (roomRule s.raw s.target (length b) ∷ []) (count_of s.raw s.target) r.clear) c.before.before.fill.ensures
+    passed _ _ s.raw _ s.target b _ _ r.cell r.target (past_finer s.raw s.target (room_rule s.raw s.target (length b) ∷ []) (count_of s.raw s.target) r.clear) c.before.before.fill.ensures
 
 pub list_spec : {M : Type 1} → statement M
 list_spec =

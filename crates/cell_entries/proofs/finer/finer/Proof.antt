@@ -5,16 +5,16 @@ use mathlib.Core.Path.{◌≡◌, sym, ap, ◌∙◌, subst}
 use mathlib.Core.List.{List, [], ◌∷◌}
 use Prim.Native.Nat.{ℕ, ◌≤◌, ◌<◌}
 use lib.Dec.{ltb}
-use Rattle.index.specs.Layout.{Valid, resOf}
+use Rattle.index.specs.Layout.{Valid, res_of}
 use Rattle.index.specs.Refusals.{Rule, ◌when◌, answered, refused}
 use Rattle.index.proofs.Answers.{of_cell, of_refusal, past_cell, hit_cell}
 use Rattle.index.proofs.Rules.{past, hit, none_answered}
-use Rattle.entry.specs.Rules.{resolutionRule}
+use Rattle.entry.specs.Rules.{resolution_rule}
 use Rattle.cell_entries.proofs.finer.finer.Statement.{statement}
 use Rattle.cell_entries.proofs.finer.finer.Tie as tie
 
 more : ℕ → ℕ → List Rule
-more n t = resolutionRule t ∷ (9 when ltb t (resOf n)) ∷ []
+more n t = resolution_rule t ∷ (9 when ltb t (res_of n)) ∷ []
 
 enum-known-a : tie.Need-enum-known-a
 enum-known-a c = search rules
@@ -59,8 +59,8 @@ returns-2 c =
     ap refused c.refusal2.ensures ∙ sym (past_cell s.raw (more s.raw s.target) _ v.1 ∙ hit _ _ _ _ (lt-ltb _ _ c.before.if1.true))
 
 -- the own resolution, as it was read
-own : (n r k : ℕ) (m : ℕ) → n ≡ m → r ≡ resOf n → k ≡ r → k ≡ resOf m
-own n r k m e p q = q ∙ p ∙ ap resOf e
+own : (n r k : ℕ) (m : ℕ) → n ≡ m → r ≡ res_of n → k ≡ r → k ≡ res_of m
+own n r k m e p q = q ∙ p ∙ ap res_of e
 
 returns-3 : tie.Need-returns-3
 unfolding more

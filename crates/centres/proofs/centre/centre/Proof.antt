@@ -10,16 +10,16 @@ use Rattle.plane.specs.Points.{normal, plus, down7}
 use Rattle.plane.specs.Ranges.{Within}
 use Rattle.plane.specs.Strings.{odd, centre}
 use Rattle.plane.specs.declared.ijk.IJK.{IJK}
-use Rattle.index.specs.Layout.{digit, resOf, Valid}
+use Rattle.index.specs.Layout.{digit, res_of, Valid}
 use Rattle.index.specs.View.{used}
-use Rattle.centres.specs.Centres.{centreOf}
+use Rattle.centres.specs.Centres.{centre_of}
 use Rattle.centres.proofs.Centres.{point_within, down_within, next_centre}
 use Rattle.centres.proofs.centre.centre.Statement.{statement}
 use Rattle.centres.proofs.centre.centre.Tie as tie
 
 record Inv (n k : ℕ) (p : IJK) (r : ℕ) : Type 0 where
   cell : Valid n
-  res : k ≡ resOf n
+  res : k ≡ res_of n
   place : r ≤ k
   is : p ≡ centre (used n r)
 
@@ -29,10 +29,10 @@ invariant_loop n k p₀ r₀ p r = Inv n k p r
 abbrev decreases_loop : tie.decreases_loop
 decreases_loop n k p₀ r₀ p r = k - r
 
-first : (x n k res : ℕ) (p : IJK) → Valid x → n ≡ x → res ≡ resOf x → k ≡ res → p ≡ centre [] → Inv n k p 0
+first : (x n k res : ℕ) (p : IJK) → Valid x → n ≡ x → res ≡ res_of x → k ≡ res → p ≡ centre [] → Inv n k p 0
 unfolding used
 first x n k res p v en er ek ep =
-    record { cell = subst Valid (sym en) v; res = ek ∙ er ∙ ap resOf (sym en); place = omega arith; is = ep }
+    record { cell = subst Valid (sym en) v; res = ek ∙ er ∙ ap res_of (sym en); place = omega arith; is = ep }
 
 -- the places of the loop: p at r, and after the digit d of resolution at
 module _ (n k : ℕ) (p : IJK) (r at d : ℕ) (i : Inv n k p r) (h : r < k) (ea : at ≡ r + 1) (ed : d ≡ digit n at) where
@@ -121,11 +121,11 @@ loop-less : tie.Need-loop-smaller invariant_loop decreases_loop
 loop-less c = omega arith
 
 -- all digits are read
-done : (x n k r : ℕ) (p : IJK) → Inv n k p r → k ≤ r → n ≡ x → p ≡ centreOf x
-unfolding centreOf
+done : (x n k r : ℕ) (p : IJK) → Inv n k p r → k ≤ r → n ≡ x → p ≡ centre_of x
+unfolding centre_of
 done x n k r p i h e =
-    let q : r ≡ resOf n = let a = i.place in let b = i.res in omega arith in
-    i.is ∙ ap (λ (m : ℕ). centre (used n m)) q ∙ ap (λ (m : ℕ). centre (used m (resOf m))) e
+    let q : r ≡ res_of n = let a = i.place in let b = i.res in omega arith in
+    i.is ∙ ap (λ (m : ℕ). centre (used n m)) q ∙ ap (λ (m : ℕ). centre (used m (res_of m))) e
 
 returns : tie.Need-returns invariant_loop decreases_loop
 returns c = done _ _ _ c.before.loop.r c.before.loop.p c.before.loop.invariant c.loop-test.false c.before.before.before.before.number_of_lem.ensures

@@ -1,13 +1,13 @@
 -- By the laws of `Start`.
 use Rattle.std.proofs.Common.{◌≡◌, ℕ, ◌-◌, ◌*◌, ◌+◌, ◌^◌, ◌≤◌, ◌<◌, arith}
-use Rattle.index.specs.Layout.{resOf, Valid}
-use Rattle.descent.specs.Positions.{childAt}
+use Rattle.index.specs.Layout.{res_of, Valid}
+use Rattle.descent.specs.Positions.{child_at}
 use Rattle.descent.proofs.Start.{opened}
 use Rattle.descent.proofs.first.get_starting_state.Goals as goal
 
 -- in the words of the calls
-known : (n n' t t' own own' unit span : ℕ) → n < 2 ^ 64 → Valid n → resOf n ≤ t → t ≤ 15 → n' ≡ n → own ≡ resOf n → unit ≡ 8 ^ (15 - t) → span ≡ 8 ^ (15 - own) → t' ≡ t → own' ≡ own →
-    (unit ≤ span) × (span - unit ≤ n') × (n' - (span - unit) + (t' - own') * 2 ^ 52 ≡ childAt n t 0)
+known : (n n' t t' own own' unit span : ℕ) → n < 2 ^ 64 → Valid n → res_of n ≤ t → t ≤ 15 → n' ≡ n → own ≡ res_of n → unit ≡ 8 ^ (15 - t) → span ≡ 8 ^ (15 - own) → t' ≡ t → own' ≡ own →
+    (unit ≤ span) × (span - unit ≤ n') × (n' - (span - unit) + (t' - own') * 2 ^ 52 ≡ child_at n t 0)
 known n n' t t' own own' unit span h v lo hi en eo eu es et eo' =
     let o = opened n t h v lo hi own unit span eo eu es in
     (o.order, rw en o.less, rw (en, et, eo') o.first)

@@ -8,12 +8,12 @@ use Prim.Native.Nat.{ℕ, ◌^◌, ◌≤◌, ◌<◌}
 use native.Mathlib.Omega.{arith}
 use Rattle.plane.specs.Directions.{turns}
 use Rattle.plane.specs.Strings.{Digits}
-use Rattle.index.specs.Layout.{resOf, base_of, digit, first_of, isPentagonal, Valid}
+use Rattle.index.specs.Layout.{res_of, base_of, digit, first_of, is_pentagonal, Valid}
 use Rattle.index.specs.View.{used, pack, first}
 use Rattle.index.specs.Refusals.{answered, refused}
 use Rattle.index.specs.Written.{WithDigits}
 use Rattle.index.proofs.View.{first_used, pack_valid}
-use Rattle.walks.specs.Walks.{walkedOf, carryOf}
+use Rattle.walks.specs.Walks.{walked_of, carry_of}
 use Rattle.grid.specs.Steps.{inside, leaves, step_of}
 use Rattle.grid.proofs.Steps.{olds, news, leaving, staying, refusing, turning_ccw, turning_cw, fit_news, fit_turned, walked_rest, walked_first, walked_turned}
 use Rattle.grid.proofs.algo.step.Statement.{statement}
@@ -24,19 +24,19 @@ record Base (n way y e : ℕ) : Type 0 where
   cell : Valid n
   fits : n < 2 ^ 64
   small : way < 7
-  number : y ≡ walkedOf n way
-  carry : e ≡ carryOf n way
+  number : y ≡ walked_of n way
+  carry : e ≡ carry_of n way
 
 -- what may be turned
 abbrev Turnable : ℕ → Type 0
-Turnable x = ((s : ℕ) → resOf x < s → s ≤ 15 → digit x s ≡ 7) × (1 ≤ 5)
+Turnable x = ((s : ℕ) → res_of x < s → s ≤ 15 → digit x s ≡ 7) × (1 ≤ 5)
 
 module _ (n way y e : ℕ) (b : Base n way y e) where
   left : (e ≡ 0 → ⊥) → answered (leaves e) ≡ step_of n way
   left f = ap (λ (x : ℕ). answered (leaves x)) b.carry ∙ sym (leaving n way (λ q. f (b.carry ∙ q)))
 
-  new_first : (g : ℕ) → g ≡ first_of y (resOf y) → g ≡ first (news n way)
-  new_first g eg = eg ∙ ap (λ (x : ℕ). first_of x (resOf x)) b.number ∙ walked_first n way b.cell b.small
+  new_first : (g : ℕ) → g ≡ first_of y (res_of y) → g ≡ first (news n way)
+  new_first g eg = eg ∙ ap (λ (x : ℕ). first_of x (res_of x)) b.number ∙ walked_first n way b.cell b.small
 
   turnable : Turnable y
   turnable =
@@ -47,15 +47,15 @@ record Plain (n way y : ℕ) : Type 0 where
   cell : Valid y
   step : (m : ℕ) → m ≡ y → answered (inside m 0) ≡ step_of n way
 
-plain : (n way y e : ℕ) → Base n way y e → e ≡ 0 → (isPentagonal (base_of n) ≡ true → first (news n way) ≡ 1 → ⊥) → Plain n way y
-unfolding walkedOf
+plain : (n way y e : ℕ) → Base n way y e → e ≡ 0 → (is_pentagonal (base_of n) ≡ true → first (news n way) ≡ 1 → ⊥) → Plain n way y
+unfolding walked_of
 plain n way y e b z k =
     record {
       cell = subst Valid (sym b.number) (pack_valid (base_of n) (news n way) (fit_news n way b.cell b.small k));
       step = λ m em. ap (λ (x : ℕ). answered (inside x 0)) (em ∙ b.number) ∙ sym (staying n way (sym b.carry ∙ z) k);
     }
 
-hexagonal : (n : ℕ) (t : Bool) → t ≡ isPentagonal (base_of n) → not t ≡ true → isPentagonal (base_of n) ≡ true → ⊥
+hexagonal : (n : ℕ) (t : Bool) → t ≡ is_pentagonal (base_of n) → not t ≡ true → is_pentagonal (base_of n) ≡ true → ⊥
 hexagonal n t et f q = true≢false (sym f ∙ ap not (et ∙ q))
 
 -- where the new first digit is deleted; f is the origin's
@@ -63,13 +63,13 @@ record Deleted (n way y f : ℕ) : Type 0 where
   is : Valid n
   fits : n < 2 ^ 64
   small : way < 7
-  number : y ≡ walkedOf n way
-  none : carryOf n way ≡ 0
-  pentagonal : isPentagonal (base_of n) ≡ true
+  number : y ≡ walked_of n way
+  none : carry_of n way ≡ 0
+  pentagonal : is_pentagonal (base_of n) ≡ true
   one : first (news n way) ≡ 1
   old : f ≡ first (olds n)
 
-deleted : (n way y e : ℕ) → Base n way y e → e ≡ 0 → (t : Bool) (g m f : ℕ) → t ≡ isPentagonal (base_of n) → not t ≡ false → g ≡ first_of y (resOf y) → g ≡ 1 → m ≡ n → f ≡ first_of m (resOf m) → Deleted n way y f
+deleted : (n way y e : ℕ) → Base n way y e → e ≡ 0 → (t : Bool) (g m f : ℕ) → t ≡ is_pentagonal (base_of n) → not t ≡ false → g ≡ first_of y (res_of y) → g ≡ 1 → m ≡ n → f ≡ first_of m (res_of m) → Deleted n way y f
 deleted n way y e b z t g m f et ft eg g1 em ef =
     record {
       is = b.cell;
@@ -79,23 +79,23 @@ deleted n way y e b z t g m f et ft eg g1 em ef =
       none = sym b.carry ∙ z;
       pentagonal = sym et ∙ not-false t ft;
       one = sym (new_first n way y e b g eg) ∙ g1;
-      old = ef ∙ ap (λ (x : ℕ). first_of x (resOf x)) em ∙ sym (first_used n (resOf n));
+      old = ef ∙ ap (λ (x : ℕ). first_of x (res_of x)) em ∙ sym (first_used n (res_of n));
     }
 
 module _ (n way y f : ℕ) (d : Deleted n way y f) where
   refusal : f ≡ 0 → refused 17 ≡ step_of n way
   refusal q = sym (refusing n way d.none d.pentagonal d.one (sym d.old ∙ q))
 
-  turned : (o : Bool) (w : ℕ) → w < 2 ^ 64 → WithDigits y (map (turns o 1) (used y (resOf y))) w → w ≡ pack (base_of n) (map (turns o 1) (news n way))
-  turned o w h ew = walked_turned n way d.is d.small o w d.fits h (subst (λ (x : ℕ). WithDigits x (map (turns o 1) (used x (resOf x))) w) d.number ew)
+  turned : (o : Bool) (w : ℕ) → w < 2 ^ 64 → WithDigits y (map (turns o 1) (used y (res_of y))) w → w ≡ pack (base_of n) (map (turns o 1) (news n way))
+  turned o w h ew = walked_turned n way d.is d.small o w d.fits h (subst (λ (x : ℕ). WithDigits x (map (turns o 1) (used x (res_of x))) w) d.number ew)
 
-  valid : (o : Bool) (w : ℕ) → w < 2 ^ 64 → WithDigits y (map (turns o 1) (used y (resOf y))) w → Valid w
+  valid : (o : Bool) (w : ℕ) → w < 2 ^ 64 → WithDigits y (map (turns o 1) (used y (res_of y))) w → Valid w
   valid o w h ew = subst Valid (sym (turned o w h ew)) (pack_valid (base_of n) (map (turns o 1) (news n way)) (fit_turned n way d.is d.small o d.one))
 
-  ccw : (w r : ℕ) → w < 2 ^ 64 → WithDigits y (map (turns true 1) (used y (resOf y))) w → r ≡ w → f ≡ 3 → answered (inside r 1) ≡ step_of n way
+  ccw : (w r : ℕ) → w < 2 ^ 64 → WithDigits y (map (turns true 1) (used y (res_of y))) w → r ≡ w → f ≡ 3 → answered (inside r 1) ≡ step_of n way
   ccw w r h ew er s = ap (λ (x : ℕ). answered (inside x 1)) (er ∙ turned true w h ew) ∙ sym (turning_ccw n way d.none d.pentagonal d.one (sym d.old ∙ s))
 
-  cw : (w r : ℕ) → w < 2 ^ 64 → WithDigits y (map (turns false 1) (used y (resOf y))) w → r ≡ w → (f ≡ 0 → ⊥) → (f ≡ 3 → ⊥) → answered (inside r 5) ≡ step_of n way
+  cw : (w r : ℕ) → w < 2 ^ 64 → WithDigits y (map (turns false 1) (used y (res_of y))) w → r ≡ w → (f ≡ 0 → ⊥) → (f ≡ 3 → ⊥) → answered (inside r 5) ≡ step_of n way
   cw w r h ew er q s = ap (λ (x : ℕ). answered (inside x 5)) (er ∙ turned false w h ew) ∙ sym (turning_cw n way d.none d.pentagonal d.one (λ z. q (d.old ∙ z)) (λ z. s (d.old ∙ z)))
 
 -- the same at the places of the code

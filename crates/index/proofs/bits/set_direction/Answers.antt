@@ -3,7 +3,7 @@ use Rattle.std.proofs.Common.{◌≡◌, ℕ, ◌+◌, ◌-◌, ◌*◌, ◌^◌
 use native.Mathlib.Nat.{pow-le-pow_right}
 use Rattle.index.specs.Layout.{digit}
 use Rattle.index.specs.Written.{Written}
-use Rattle.index.proofs.Write.{setDigit, set_written, set_room, set_fits}
+use Rattle.index.proofs.Write.{set_digit, set_written, set_room, set_fits}
 use Rattle.index.proofs.bits.set_direction.Goals as goal
 
 -- in the words of the two calls
@@ -15,7 +15,7 @@ record Parts (n r d u o : ℕ) : Type 0 where
 
 parts : (n r d u o : ℕ) → 1 ≤ r → r ≤ 15 → d ≤ 6 → n < 2 ^ 64 → u ≡ 8 ^ (15 - r) → o ≡ digit n r → Parts n r d u o
 parts n r d u o l h hd f eu eo =
-    let whole : setDigit n r d ≡ n - o * u + d * u = rw (eu, eo) in
+    let whole : set_digit n r d ≡ n - o * u + d * u = rw (eu, eo) in
     let w : u ≤ 8 ^ 14 = rw eu (pow-le-pow_right (omega arith) {i = 15 - r} {j = 14} (omega arith)) in
     record {
       room = rw (eu, eo) (set_room n r d (omega arith));

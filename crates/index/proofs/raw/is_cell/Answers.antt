@@ -2,9 +2,9 @@
 use Rattle.std.proofs.Common.{◌≡◌, ℕ, ◌+◌, ◌-◌, ◌/◌, ◌%◌, ◌^◌, ◌<◌, ◌≤◌, cond, not, eqb, sym, ap, ◌∙◌, arith, le-ltb, eqb-true}
 use native.Mathlib.Nat.{div-div-eq-div-mul}
 use lib.Bits.{bit_or, bit_xor, bit_and, and_le_l, and_le_r, or_add_and, xor_add_and}
-use Rattle.index.specs.Layout.{top_bit, mode_of, reservedOf, base_of, resOf, isPentagonal}
+use Rattle.index.specs.Layout.{top_bit, mode_of, reserved_of, base_of, res_of, is_pentagonal}
 use Rattle.index.specs.Refusals.{Clear}
-use Rattle.index.specs.Check.{cellRules}
+use Rattle.index.specs.Check.{cell_rules}
 use Rattle.index.specs.Words.{Each, mark, ones, low}
 use Rattle.index.proofs.Rules.{clear_answered}
 use Rattle.index.proofs.Leading.{highs, first_is_one}
@@ -44,11 +44,11 @@ module _ (n : ℕ) (e : n / 2 ^ 56 ≡ 8) where
   mode : mode_of n ≡ 1
   mode = ap (λ (x : ℕ). x % 16) (sym (div-div-eq-div-mul n (2 ^ 56) (2 ^ 3))) ∙ ap (λ (x : ℕ). x / 2 ^ 3 % 16) e
 
-  reserved : reservedOf n ≡ 0
+  reserved : reserved_of n ≡ 0
   reserved = ap (λ (x : ℕ). x % 8) e
 
-cleared : (n b s u lo d : ℕ) → b ≡ base_of n → u ≡ ones (15 - resOf n) → Each mark n s → Each (λ d. cond (isPentagonal b) (low d) 0) n lo → d < 2 ^ 64 → (d + lo) % 2 ^ 64 ≡ bit_and n 30158033218998 →
-    bit_or (bit_or (bit_or (bit_xor (n / 2 ^ 56) 8) ((b + 6) / 2 ^ 7)) (bit_xor s u)) (d / 2 ^ 63) ≡ 0 → Clear (cellRules n)
+cleared : (n b s u lo d : ℕ) → b ≡ base_of n → u ≡ ones (15 - res_of n) → Each mark n s → Each (λ d. cond (is_pentagonal b) (low d) 0) n lo → d < 2 ^ 64 → (d + lo) % 2 ^ 64 ≡ bit_and n 30158033218998 →
+    bit_or (bit_or (bit_or (bit_xor (n / 2 ^ 56) 8) ((b + 6) / 2 ^ 7)) (bit_xor s u)) (d / 2 ^ 63) ≡ 0 → Clear (cell_rules n)
 cleared n b s u lo d eb eu m w l ed z =
     let q = no_part (bit_xor (n / 2 ^ 56) 8) ((b + 6) / 2 ^ 7) (bit_xor s u) (d / 2 ^ 63) z in
     let e = none_changed (n / 2 ^ 56) 8 q.0 in
@@ -64,5 +64,5 @@ pub returns : goal.returns
 returns c t =
     let n : ℕ = c.args.n in
     let eu = c.unused-u.ensures ∙ ap (λ (r : ℕ). ones (15 - r)) c.get_resolution.ensures in
-    clear_answered (cellRules n) n
+    clear_answered (cell_rules n) n
     (cleared n _ _ _ _ _ c.get_base_cell-base.ensures eu c.marks-s.ensures c.low_bits.ensures c.wrapping_sub_u64-deleted.type_inv c.wrapping_sub_u64-deleted.ensures.value (eqb-true _ _ t))

@@ -4,7 +4,7 @@ use Prim.Native.Nat.{ℕ}
 use Rattle.index.specs.Refusals.{answered, refused}
 use Rattle.plane.specs.declared.ijk.IJ.{IJ}
 use Rattle.outward.proofs.Fields.{fits, pair_read}
-use Rattle.outward.specs.Exports.{pairOut}
+use Rattle.outward.specs.Exports.{pair_out}
 use Rattle.outward.proofs.answers.pair_out.Statement.{statement}
 use Rattle.outward.proofs.answers.pair_out.Tie as tie
 
@@ -21,10 +21,10 @@ returns : tie.Need-returns
 returns c =
     let p = c.before.before.a.given.0.0 in
     let f = c.struct_told.given in
-    rw c.before.before.a.given.1 (ap (λ (t : IJ). pairOut (answered t)) (pair_read p.i p.j (fits p.i f.0.1) (fits p.j f.1.0.1)))
+    rw c.before.before.a.given.1 (ap (λ (t : IJ). pair_out (answered t)) (pair_read p.i p.j (fits p.i f.0.1) (fits p.j f.1.0.1)))
 
 returns-2 : tie.Need-returns-2
-returns-2 c = rw c.before.before.a2.given.1 (ap (λ (k : ℕ). pairOut (refused k)) c.number.ensures)
+returns-2 c = rw c.before.before.a2.given.1 (ap (λ (k : ℕ). pair_out (refused k)) c.number.ensures)
 
 pub pair_out_spec : {M : Type 1} → statement M
 pair_out_spec = tie.close (tie.spec enum-known-a enum-known-a-2 number-requires returns returns-2)

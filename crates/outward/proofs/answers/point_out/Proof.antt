@@ -4,7 +4,7 @@ use Prim.Native.Nat.{ℕ}
 use Rattle.index.specs.Refusals.{answered, refused}
 use Rattle.plane.specs.declared.ijk.IJK.{IJK}
 use Rattle.outward.proofs.Fields.{fits, point_read}
-use Rattle.outward.specs.Exports.{pointOut}
+use Rattle.outward.specs.Exports.{point_out}
 use Rattle.outward.proofs.answers.point_out.Statement.{statement}
 use Rattle.outward.proofs.answers.point_out.Tie as tie
 
@@ -21,10 +21,10 @@ returns : tie.Need-returns
 returns c =
     let p = c.before.before.a.given.0.0 in
     let f = c.struct_told.given in
-    rw c.before.before.a.given.1 (ap (λ (t : IJK). pointOut (answered t)) (point_read p.i p.j p.k (fits p.i f.0.1) (fits p.j f.1.0.1) (fits p.k f.1.1.0.1)))
+    rw c.before.before.a.given.1 (ap (λ (t : IJK). point_out (answered t)) (point_read p.i p.j p.k (fits p.i f.0.1) (fits p.j f.1.0.1) (fits p.k f.1.1.0.1)))
 
 returns-2 : tie.Need-returns-2
-returns-2 c = rw c.before.before.a2.given.1 (ap (λ (k : ℕ). pointOut (refused k)) c.number.ensures)
+returns-2 c = rw c.before.before.a2.given.1 (ap (λ (k : ℕ). point_out (refused k)) c.number.ensures)
 
 pub point_out_spec : {M : Type 1} → statement M
 point_out_spec = tie.close (tie.spec enum-known-a enum-known-a-2 number-requires returns returns-2)

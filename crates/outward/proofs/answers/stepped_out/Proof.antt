@@ -2,9 +2,9 @@ use borrow.Author.Rules.{rules}
 use mathlib.Core.Path.{◌≡◌, sym, ap, ◌∙◌, subst}
 use Prim.Native.Nat.{ℕ, ◌<◌}
 use Rattle.index.specs.Refusals.{refused}
-use Rattle.entry.specs.Answers.{toldStepped}
+use Rattle.entry.specs.Answers.{stepped_told}
 use Rattle.entry.specs.declared.answers.Stepped.{Stepped}
-use Rattle.outward.specs.Exports.{steppedOut}
+use Rattle.outward.specs.Exports.{stepped_out}
 use Rattle.outward.proofs.answers.stepped_out.Statement.{statement}
 use Rattle.outward.proofs.answers.stepped_out.Tie as tie
 
@@ -21,17 +21,17 @@ number-requires : tie.Need-number-requires
 number-requires c κs = search rules
 
 returns : tie.Need-returns
-returns c = sym (ap (λ (a : Stepped). steppedOut (toldStepped a)) c.before.a.given.1)
+returns c = sym (ap (λ (a : Stepped). stepped_out (stepped_told a)) c.before.a.given.1)
 
 returns-2 : tie.Need-returns-2
-returns-2 c = sym (ap (λ (a : Stepped). steppedOut (toldStepped a)) c.before.a2.given.1)
+returns-2 c = sym (ap (λ (a : Stepped). stepped_out (stepped_told a)) c.before.a2.given.1)
 
 returns-3 : tie.Need-returns-3
-returns-3 c = ap (λ (k : ℕ). steppedOut (refused k)) c.number.ensures ∙ sym (ap (λ (a : Stepped). steppedOut (toldStepped a)) c.before.before.a3.given.1)
+returns-3 c = ap (λ (k : ℕ). stepped_out (refused k)) c.number.ensures ∙ sym (ap (λ (a : Stepped). stepped_out (stepped_told a)) c.before.before.a3.given.1)
 
 -- what an answer that fits 16 bits holds
-small : (a b : Stepped) → a ≡ b → (steppedOut (toldStepped a)).turn < 65536 → (steppedOut (toldStepped b)).turn < 65536
-small a b e h = subst (λ (x : Stepped). (steppedOut (toldStepped x)).turn < 65536) e h
+small : (a b : Stepped) → a ≡ b → (stepped_out (stepped_told a)).turn < 65536 → (stepped_out (stepped_told b)).turn < 65536
+small a b e h = subst (λ (x : Stepped). (stepped_out (stepped_told x)).turn < 65536) e h
 
 cast-t7 : tie.Need-overflow-cast-t7
 cast-t7 c = record { fits = small _ _ c.before.a.given.1 c.before.before.before.requires }

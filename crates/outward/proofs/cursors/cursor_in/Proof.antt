@@ -11,14 +11,14 @@ use denote.Enum.Declared
 use types.Run
 use Rattle.outward.specs.declared.cursors.Skip.{Skip}
 use Rattle.outward.specs.contracts.cursors.Skip as skip-type
-use Rattle.outward.specs.CursorWords.{skipIn, toldSkip, withSkip}
+use Rattle.outward.specs.CursorWords.{skip_in, skip_told, with_skip}
 use Rattle.outward.proofs.Fields.{fits}
 use Rattle.outward.proofs.Reading.{own_high, target_high, both_low}
 use Rattle.outward.proofs.cursors.cursor_in.Statement.{statement}
 use Rattle.outward.proofs.cursors.cursor_in.Tie as tie
 
 -- a word that is no skip
-no_skip : (s : ℕ) (a : Skip) → Run.OneOf (1 ∷ []) (Declared.tag_of skip-type.the_type a) → toldSkip a ≡ skipIn s → skipIn s ≡ none
+no_skip : (s : ℕ) (a : Skip) → Run.OneOf (1 ∷ []) (Declared.tag_of skip-type.the_type a) → skip_told a ≡ skip_in s → skip_in s ≡ none
 no_skip s (Skip.Is z) o e = absurd (suc-ne-zero 0 (sym o))
 no_skip s Skip.Nothing o e = sym e
 
@@ -42,8 +42,8 @@ returns-4 c =
     let b = c.before.before.before in
     let a = b.before.before.before.args in
     let z = c.before.a.given.0.0 in
-    let w = withSkip a.own a.target a.number a.left in
-    let e = sym (ap toldSkip c.before.a.given.1) ∙ b.skip-in.ensures in
+    let w = with_skip a.own a.target a.number a.left in
+    let e = sym (ap skip_told c.before.a.given.1) ∙ b.skip-in.ensures in
     ap (λ (z : ℤ). w (some z)) (to_z-of_z (fits z c.known-told.given.0.1))
     ∙ ap w e
     ∙ sym (both_low a.own a.target a.number a.skip a.left b.before.before.if1.false b.before.if2.false)
@@ -53,7 +53,7 @@ returns-3 c =
     let b = c.before.before in
     let a = b.before.before.before.args in
     let k = b.skip-in in
-    sym (both_low a.own a.target a.number a.skip a.left b.before.before.if1.false b.before.if2.false ∙ ap (withSkip a.own a.target a.number a.left) (no_skip a.skip k.result c.before.match.keys2 k.ensures))
+    sym (both_low a.own a.target a.number a.skip a.left b.before.before.if1.false b.before.if2.false ∙ ap (with_skip a.own a.target a.number a.left) (no_skip a.skip k.result c.before.match.keys2 k.ensures))
 
 cast-t9 : tie.Need-overflow-cast-t9
 cast-t9 c = search rules

@@ -1,8 +1,8 @@
 use borrow.Author.Rules.{rules}
 use mathlib.Core.Path.{sym, ap, ◌∙◌}
 use Rattle.children.specs.declared.children.Given.{Given}
-use Rattle.outward.specs.Exports.{numberOut}
-use Rattle.outward.specs.CursorWords.{givenNumber, givenWords}
+use Rattle.outward.specs.Exports.{number_out}
+use Rattle.outward.specs.CursorWords.{given_number, given_words}
 use Rattle.outward.proofs.cursors.given_out.Statement.{statement}
 use Rattle.outward.proofs.cursors.given_out.Tie as tie
 
@@ -22,19 +22,19 @@ returns : tie.Need-returns
 returns c =
     let d = c.before.before.before in
     let e = d.g.given.1 in
-    (sym (ap (λ (g : Given). numberOut (givenNumber g)) e), c.write.ensures ∙ sym (ap (givenWords d.before.before.args.words.now) e))
+    (sym (ap (λ (g : Given). number_out (given_number g)) e), c.write.ensures ∙ sym (ap (given_words d.before.before.args.words.now) e))
 
 returns-2 : tie.Need-returns-2
 returns-2 c =
     let d = c.before in
     let e = d.g2.given.1 in
-    (sym (ap (λ (g : Given). numberOut (givenNumber g)) e), sym (ap (givenWords d.before.before.args.words.now) e))
+    (sym (ap (λ (g : Given). number_out (given_number g)) e), sym (ap (given_words d.before.before.args.words.now) e))
 
 returns-3 : tie.Need-returns-3
 returns-3 c =
     let d = c.before in
     let e = d.g3.given.1 in
-    (sym (ap (λ (g : Given). numberOut (givenNumber g)) e), sym (ap (givenWords d.before.before.args.words.now) e))
+    (sym (ap (λ (g : Given). number_out (given_number g)) e), sym (ap (given_words d.before.before.args.words.now) e))
 
 pub given_out_spec : {M : Type 1} → statement M
 given_out_spec =

@@ -1,9 +1,9 @@
 use borrow.Author.Rules.{rules}
 use mathlib.Core.Path.{sym, ap, ◌∙◌}
 use Rattle.index.specs.Refusals.{number_of}
-use Rattle.entry.specs.Answers.{toldStarted}
+use Rattle.entry.specs.Answers.{started_told}
 use Rattle.entry.specs.declared.answers.Started.{Started}
-use Rattle.outward.specs.CursorWords.{startedWords}
+use Rattle.outward.specs.CursorWords.{started_words}
 use Rattle.outward.proofs.cursors.started_out.Statement.{statement}
 use Rattle.outward.proofs.cursors.started_out.Tie as tie
 
@@ -33,7 +33,7 @@ returns-2 c =
     let w = c.before in
     let d = w.before.before.before in
     let e = d.a.given.1 in
-    (c.refusal-out2.ensures.0 ∙ sym (ap (λ (a : Started). number_of (toldStarted a)) e), c.refusal-out2.ensures.1, w.write.ensures ∙ sym (ap (λ (a : Started). startedWords d.before.before.args.words.now (toldStarted a)) e))
+    (c.refusal-out2.ensures.0 ∙ sym (ap (λ (a : Started). number_of (started_told a)) e), c.refusal-out2.ensures.1, w.write.ensures ∙ sym (ap (λ (a : Started). started_words d.before.before.args.words.now (started_told a)) e))
 
 pub started_out_spec : {M : Type 1} → statement M
 started_out_spec =

@@ -3,7 +3,7 @@ use mathlib.Core.Path.{ap, ◌∙◌}
 use mathlib.Core.List.{[], ◌∷◌}
 use Prim.Native.Nat.{ℕ}
 use mir.Facts.{to_z-of_z}
-use Rattle.outward.specs.CursorWords.{skipWord}
+use Rattle.outward.specs.CursorWords.{skip_word}
 use Rattle.outward.proofs.Fields.{fits}
 use Rattle.outward.proofs.cursors.write.Statement.{statement}
 use Rattle.outward.proofs.cursors.write.Tie as tie
@@ -20,7 +20,7 @@ skip-word-requires c κs = search rules
 returns : tie.Need-returns
 returns c =
     let k = c.before.before.before.before.before.args.c in
-    let e = ap skipWord (to_z-of_z (fits k.skip c.before.before.struct_told.given.1.1.1.0.1)) in
+    let e = ap skip_word (to_z-of_z (fits k.skip c.before.before.struct_told.given.1.1.1.0.1)) in
     ap (λ (w : ℕ). k.own ∷ k.target ∷ k.number ∷ w ∷ k.left ∷ []) (c.before.skip-word.ensures ∙ e)
 
 pub write_spec : {M : Type 1} → statement M

@@ -17,7 +17,7 @@ use Rattle.plane.specs.declared.ijk.IJK.{IJK}
 use Rattle.plane.specs.declared.direction.Direction.{Direction}
 use Rattle.plane.specs.declared.ijk.Way.{Way}
 use Rattle.plane.specs.contracts.ijk.Way as way-type
-use Rattle.point_entries.specs.Points.{unitRule}
+use Rattle.point_entries.specs.Points.{unit_rule}
 use Rattle.entry.proofs.Judges.{within, outside, refuse_point, wider}
 use Rattle.point_entries.proofs.entries.direction_of.Statement.{statement}
 use Rattle.point_entries.proofs.entries.direction_of.Tie as tie
@@ -56,7 +56,7 @@ returns : tie.Need-returns
 returns c =
     let p = c.before.before.before.before.args.p in
     let a = c.before.before.before.locate in
-    refuse_point p (unitRule p ∷ []) _ (value (normal p)) (outside p a.result c.before.before.match.keys2 a.ensures) c.refusal.ensures
+    refuse_point p (unit_rule p ∷ []) _ (value (normal p)) (outside p a.result c.before.before.match.keys2 a.ensures) c.refusal.ensures
 
 direction-of-requires : tie.Need-direction-of-requires
 direction-of-requires c κs =
@@ -80,7 +80,7 @@ returns-2 c =
     let b = c.before.before.before.direction_of in
     let w = within p a.result _ c.before.before.before.before.before.a.given.1 a.ensures in
     ap refused c.refusal2.ensures
-    ∙ sym (past 14 _ (unitRule p ∷ []) (value (normal p)) w.2 ∙ hit _ _ [] _ (none p b.result c.before.before.match2.keys2 (b.ensures ∙ ap direction_of w.0)))
+    ∙ sym (past 14 _ (unit_rule p ∷ []) (value (normal p)) w.2 ∙ hit _ _ [] _ (none p b.result c.before.before.match2.keys2 (b.ensures ∙ ap direction_of w.0)))
 
 value-requires : tie.Need-value-requires
 value-requires c κs = search rules
@@ -95,7 +95,7 @@ returns-3 c =
     let b = c.before.before.before.before.direction_of in
     let w = within p a.result _ c.before.before.before.before.before.before.a.given.1 a.ensures in
     let d = found p b.result _ c.before.before.b.given.1 (b.ensures ∙ ap direction_of w.0) in
-    ap answered (c.value.ensures ∙ d.0) ∙ sym (past 14 _ (unitRule p ∷ []) (value (normal p)) w.2 ∙ past _ _ [] _ d.1 ∙ none_answered _)
+    ap answered (c.value.ensures ∙ d.0) ∙ sym (past 14 _ (unit_rule p ∷ []) (value (normal p)) w.2 ∙ past _ _ [] _ d.1 ∙ none_answered _)
 
 pub direction_of_spec : {M : Type 1} → statement M
 direction_of_spec =

@@ -7,7 +7,7 @@ use Prim.Native.Nat.{ℕ, ◌<◌}
 use Rattle.index.specs.Refusals.{answered, refused}
 use Rattle.index.proofs.Rules.{past, hit, none_answered}
 use Rattle.plane.specs.Directions.{turns}
-use Rattle.entry.specs.Rules.{countRule}
+use Rattle.entry.specs.Rules.{count_rule}
 use Rattle.entry.proofs.Judges.{to, nowhere, refuse_way}
 use Rattle.point_entries.proofs.entries.direction_turn.Statement.{statement}
 use Rattle.point_entries.proofs.entries.direction_turn.Tie as tie
@@ -40,14 +40,14 @@ returns : tie.Need-returns
 returns c =
     let s = c.before.before.before.before.args in
     let a = c.before.before.before.head in
-    refuse_way s.direction (countRule s.count ∷ []) _ (turns s.ccw s.count s.direction) (nowhere s.direction _ a.result c.before.before.match.keys2 a.ensures) c.refusal.ensures
+    refuse_way s.direction (count_rule s.count ∷ []) _ (turns s.ccw s.count s.direction) (nowhere s.direction _ a.result c.before.before.match.keys2 a.ensures) c.refusal.ensures
 
 returns-2 : tie.Need-returns-2
 returns-2 c =
     let s = c.before.before.before.before.before.before.args in
     let a = c.before.before.before.before.before.head in
     let h = to s.direction a.result _ c.before.before.before.a.given.1 a.ensures in
-    ap refused c.refusal2.ensures ∙ sym (past 13 _ (countRule s.count ∷ []) (turns s.ccw s.count s.direction) h.2 ∙ hit _ _ [] _ (lt-ltb _ _ c.before.if1.true))
+    ap refused c.refusal2.ensures ∙ sym (past 13 _ (count_rule s.count ∷ []) (turns s.ccw s.count s.direction) h.2 ∙ hit _ _ [] _ (lt-ltb _ _ c.before.if1.true))
 
 rotate60-requires : tie.Need-rotate60-requires
 rotate60-requires c κs =
@@ -61,7 +61,7 @@ returns-3 c =
     let a = c.before.before.before.before.before.before.head in
     let h = to s.direction a.result _ c.before.before.before.before.a.given.1 a.ensures in
     ap answered (c.value.ensures ∙ c.before.rotate60.ensures ∙ ap (turns s.ccw s.count) h.0)
-    ∙ sym (past 13 _ (countRule s.count ∷ []) (turns s.ccw s.count s.direction) h.2 ∙ past _ _ [] _ (le-ltb _ _ c.before.before.if1.false) ∙ none_answered _)
+    ∙ sym (past 13 _ (count_rule s.count ∷ []) (turns s.ccw s.count s.direction) h.2 ∙ past _ _ [] _ (le-ltb _ _ c.before.before.if1.false) ∙ none_answered _)
 
 pub direction_turn_spec : {M : Type 1} → statement M
 direction_turn_spec =

@@ -14,7 +14,7 @@ use Rattle.plane.specs.Points.{distance}
 use Rattle.plane.proofs.Distances.{distance_least}
 use Rattle.plane.proofs.Signs.{size_fits}
 use Rattle.plane.proofs.Bounds.{rd}
-use Rattle.entry.specs.Rules.{rangeRule}
+use Rattle.entry.specs.Rules.{range_rule}
 use Rattle.entry.proofs.Judges.{within, outside, refuse_point, answer_point, wider}
 use Rattle.point_entries.proofs.entries.distance.Statement.{statement}
 use Rattle.point_entries.proofs.entries.distance.Tie as tie
@@ -47,7 +47,7 @@ returns : tie.Need-returns
 returns c =
     let s = c.before.before.before.before.args in
     let a = c.before.before.before.locate in
-    refuse_point s.p (rangeRule s.q ∷ []) _ (nat_abs (distance s.p s.q)) (outside s.p a.result c.before.before.match.keys2 a.ensures) c.refusal.ensures
+    refuse_point s.p (range_rule s.q ∷ []) _ (nat_abs (distance s.p s.q)) (outside s.p a.result c.before.before.match.keys2 a.ensures) c.refusal.ensures
 
 returns-2 : tie.Need-returns-2
 returns-2 c =
@@ -56,7 +56,7 @@ returns-2 c =
     let b = c.before.before.before.locate2 in
     let v = within s.p a.result _ c.before.before.before.before.before.a.given.1 a.ensures in
     refuse_point s.q [] _ (nat_abs (distance s.p s.q)) (outside s.q b.result c.before.before.match2.keys2 b.ensures) c.refusal2.ensures
-    ∙ sym (past 14 _ (rangeRule s.q ∷ []) _ v.2)
+    ∙ sym (past 14 _ (range_rule s.q ∷ []) _ v.2)
 
 distance-requires : tie.Need-distance-requires
 distance-requires c κs =
@@ -86,7 +86,7 @@ returns-3 c =
     let v = within s.p a.result _ c.before.before.before.before.before.before.a.given.1 a.ensures in
     let w = within s.q b.result _ c.before.before.b.given.1 b.ensures in
     let f : SFits w32 c.distance.result = record { sfits = c.distance.type-inv } in
-    answer_point s.q _ _ w.2 (ap nat_abs (to_z-of_z f ∙ c.distance.ensures ∙ ap₂ distance v.0 w.0)) ∙ sym (past 14 _ (rangeRule s.q ∷ []) _ v.2)
+    answer_point s.q _ _ w.2 (ap nat_abs (to_z-of_z f ∙ c.distance.ensures ∙ ap₂ distance v.0 w.0)) ∙ sym (past 14 _ (range_rule s.q ∷ []) _ v.2)
 
 pub distance_spec : {M : Type 1} → statement M
 distance_spec =

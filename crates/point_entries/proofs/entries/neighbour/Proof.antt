@@ -10,7 +10,7 @@ use Rattle.index.proofs.Rules.{past}
 use Rattle.plane.specs.Directions.{unit}
 use Rattle.plane.specs.Points.{normal, plus}
 use Rattle.plane.specs.declared.ijk.IJK.{IJK}
-use Rattle.entry.specs.Rules.{rangeRule}
+use Rattle.entry.specs.Rules.{range_rule}
 use Rattle.entry.proofs.Judges.{to, nowhere, within, outside, refuse_way, refuse_point, answer_point, wider}
 use Rattle.point_entries.proofs.entries.neighbour.Statement.{statement}
 use Rattle.point_entries.proofs.entries.neighbour.Tie as tie
@@ -24,7 +24,7 @@ returns c =
     let f = c.before.before in
     let a = f.before.before.before in
     let s = a.before.args in
-    refuse_way s.direction (rangeRule s.p ∷ []) _ (moved s.p s.direction) (nowhere s.direction _ a.head.result c.before.match.keys2 a.head.ensures) f.before.refusal.ensures
+    refuse_way s.direction (range_rule s.p ∷ []) _ (moved s.p s.direction) (nowhere s.direction _ a.head.result c.before.match.keys2 a.head.ensures) f.before.refusal.ensures
 
 -- the arm of a direction
 way : (c : tie.After-known-told) → let d = c.before.before.before.before.before.before.before.args.direction in
@@ -39,7 +39,7 @@ returns-2 c =
     let b = f.before.before in
     let s = b.before.before.args in
     refuse_point s.p [] _ (moved s.p s.direction) (outside s.p b.locate.result c.before.match2.keys2 b.locate.ensures) f.refusal2.ensures
-    ∙ sym (past 13 _ (rangeRule s.p ∷ []) _ (way k).2)
+    ∙ sym (past 13 _ (range_rule s.p ∷ []) _ (way k).2)
 
 head-requires : tie.Need-head-requires
 head-requires c κs = search rules
@@ -82,7 +82,7 @@ returns-3 c =
     let s = b.before.before.args in
     let h = way k in
     let w = within s.p b.locate.result _ e.before.place.given.1 b.locate.ensures in
-    answer_point s.p _ _ w.2 (c.neighbor.ensures ∙ ap₂ moved w.0 h.0) ∙ sym (past 13 _ (rangeRule s.p ∷ []) _ h.2)
+    answer_point s.p _ _ w.2 (c.neighbor.ensures ∙ ap₂ moved w.0 h.0) ∙ sym (past 13 _ (range_rule s.p ∷ []) _ h.2)
 
 pub neighbour_spec : {M : Type 1} → statement M
 neighbour_spec =

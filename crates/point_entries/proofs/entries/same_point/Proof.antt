@@ -5,7 +5,7 @@ use mathlib.Core.List.{[], ◌∷◌}
 use native.Mathlib.Omega.{arith}
 use Rattle.index.proofs.Rules.{past}
 use Rattle.plane.specs.Points.{same}
-use Rattle.entry.specs.Rules.{rangeRule}
+use Rattle.entry.specs.Rules.{range_rule}
 use Rattle.entry.proofs.Judges.{within, outside, refuse_point, answer_point, wider}
 use Rattle.point_entries.proofs.entries.same_point.Statement.{statement}
 use Rattle.point_entries.proofs.entries.same_point.Tie as tie
@@ -38,7 +38,7 @@ returns : tie.Need-returns
 returns c =
     let s = c.before.before.before.before.args in
     let a = c.before.before.before.locate in
-    refuse_point s.p (rangeRule s.q ∷ []) _ (same s.p s.q) (outside s.p a.result c.before.before.match.keys2 a.ensures) c.refusal.ensures
+    refuse_point s.p (range_rule s.q ∷ []) _ (same s.p s.q) (outside s.p a.result c.before.before.match.keys2 a.ensures) c.refusal.ensures
 
 returns-2 : tie.Need-returns-2
 returns-2 c =
@@ -47,7 +47,7 @@ returns-2 c =
     let b = c.before.before.before.locate2 in
     let v = within s.p a.result _ c.before.before.before.before.before.a.given.1 a.ensures in
     refuse_point s.q [] _ (same s.p s.q) (outside s.q b.result c.before.before.match2.keys2 b.ensures) c.refusal2.ensures
-    ∙ sym (past 14 _ (rangeRule s.q ∷ []) _ v.2)
+    ∙ sym (past 14 _ (range_rule s.q ∷ []) _ v.2)
 
 same-point-requires : tie.Need-same-point-requires
 same-point-requires c κs =
@@ -65,7 +65,7 @@ returns-3 c =
     let b = c.before.before.before.before.locate2 in
     let v = within s.p a.result _ c.before.before.before.before.before.before.a.given.1 a.ensures in
     let w = within s.q b.result _ c.before.before.b.given.1 b.ensures in
-    answer_point s.q _ _ w.2 (c.same_point.ensures ∙ ap₂ same v.0 w.0) ∙ sym (past 14 _ (rangeRule s.q ∷ []) _ v.2)
+    answer_point s.q _ _ w.2 (c.same_point.ensures ∙ ap₂ same v.0 w.0) ∙ sym (past 14 _ (range_rule s.q ∷ []) _ v.2)
 
 pub same_point_spec : {M : Type 1} → statement M
 same_point_spec =

@@ -1,6 +1,6 @@
 use borrow.Author.Rules.{rules}
 use mathlib.Core.Path.{ap, ◌∙◌}
-use Rattle.outward.specs.Exports.{numberOut}
+use Rattle.outward.specs.Exports.{number_out}
 use Rattle.rivetgnome.proofs.blocks.rg_ancestor_block.Statement.{statement}
 use Rattle.rivetgnome.proofs.blocks.rg_ancestor_block.Tie as tie
 
@@ -19,7 +19,7 @@ same-length-2 c = search rules
 returns : tie.Need-returns
 returns c =
     let b = c.before.before.before.before.before.ancestor-block.ensures in
-    (c.number-out.ensures ∙ ap numberOut b.0, b.1, b.2)
+    (c.number-out.ensures ∙ ap number_out b.0, b.1, b.2)
 
 pub rg_ancestor_block_spec : {M : Type 1} → statement M
 rg_ancestor_block_spec =

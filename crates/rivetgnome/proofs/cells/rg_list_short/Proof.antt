@@ -1,6 +1,6 @@
 use borrow.Author.Rules.{rules}
 use mathlib.Core.Path.{ap, ◌∙◌}
-use Rattle.outward.specs.Exports.{numberOut}
+use Rattle.outward.specs.Exports.{number_out}
 use Rattle.rivetgnome.proofs.cells.rg_list_short.Statement.{statement}
 use Rattle.rivetgnome.proofs.cells.rg_list_short.Tie as tie
 
@@ -14,7 +14,7 @@ same_length : tie.Need-same-length
 same_length c = search rules
 
 returns : tie.Need-returns
-returns c = (c.number-out.ensures ∙ ap numberOut c.before.before.before.list-short.ensures.0, c.before.before.before.list-short.ensures.1)
+returns c = (c.number-out.ensures ∙ ap number_out c.before.before.before.list-short.ensures.0, c.before.before.before.list-short.ensures.1)
 
 pub rg_list_short_spec : {M : Type 1} → statement M
 rg_list_short_spec =

@@ -1,8 +1,8 @@
 use borrow.Author.Rules.{rules}
 use mathlib.Core.Path.{ap, ◌∙◌}
 use mathlib.Core.Bool.{true}
-use Rattle.point_entries.specs.Points.{down3Of}
-use Rattle.outward.specs.Exports.{pointOut}
+use Rattle.point_entries.specs.Points.{down3_of}
+use Rattle.outward.specs.Exports.{point_out}
 use Rattle.outward.proofs.Fields.{point_read}
 use Rattle.rivetgnome.proofs.points.rg_down3_ccw.Statement.{statement}
 use Rattle.rivetgnome.proofs.points.rg_down3_ccw.Tie as tie
@@ -16,7 +16,7 @@ point-out-requires c κs = search rules
 returns : tie.Need-returns
 returns c =
     let s = c.before.before in
-    c.point-out.ensures ∙ ap pointOut (c.before.down3-ccw.ensures ∙ ap (down3Of true) (point_read _ _ _ s.ranges.i s.ranges.j s.ranges.k))
+    c.point-out.ensures ∙ ap point_out (c.before.down3-ccw.ensures ∙ ap (down3_of true) (point_read _ _ _ s.ranges.i s.ranges.j s.ranges.k))
 
 pub rg_down3_ccw_spec : {M : Type 1} → statement M
 rg_down3_ccw_spec = tie.close (tie.spec down3-ccw-requires point-out-requires returns)

@@ -1,8 +1,8 @@
 use borrow.Author.Rules.{rules}
 use mathlib.Core.Path.{ap, ◌∙◌}
 use mathlib.Core.Bool.{false}
-use Rattle.point_entries.specs.Points.{pointTurnOf}
-use Rattle.outward.specs.Exports.{pointOut}
+use Rattle.point_entries.specs.Points.{point_turn_of}
+use Rattle.outward.specs.Exports.{point_out}
 use Rattle.outward.proofs.Fields.{point_read}
 use Rattle.rivetgnome.proofs.points.rg_point_turn_cw.Statement.{statement}
 use Rattle.rivetgnome.proofs.points.rg_point_turn_cw.Tie as tie
@@ -16,7 +16,7 @@ point-out-requires c κs = search rules
 returns : tie.Need-returns
 returns c =
     let s = c.before.before in
-    c.point-out.ensures ∙ ap pointOut (c.before.point-turn-cw.ensures ∙ ap (pointTurnOf false) (point_read _ _ _ s.ranges.i s.ranges.j s.ranges.k))
+    c.point-out.ensures ∙ ap point_out (c.before.point-turn-cw.ensures ∙ ap (point_turn_of false) (point_read _ _ _ s.ranges.i s.ranges.j s.ranges.k))
 
 pub rg_point_turn_cw_spec : {M : Type 1} → statement M
 rg_point_turn_cw_spec = tie.close (tie.spec point-turn-cw-requires point-out-requires returns)

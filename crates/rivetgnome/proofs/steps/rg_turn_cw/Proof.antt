@@ -1,6 +1,6 @@
 use borrow.Author.Rules.{rules}
 use mathlib.Core.Path.{ap, ◌∙◌}
-use Rattle.outward.specs.Exports.{numberOut}
+use Rattle.outward.specs.Exports.{number_out}
 use Rattle.rivetgnome.proofs.steps.rg_turn_cw.Statement.{statement}
 use Rattle.rivetgnome.proofs.steps.rg_turn_cw.Tie as tie
 
@@ -11,7 +11,7 @@ number-out-requires : tie.Need-number-out-requires
 number-out-requires c κs = search rules
 
 returns : tie.Need-returns
-returns c = c.number-out.ensures ∙ ap numberOut c.before.turn-cw.ensures
+returns c = c.number-out.ensures ∙ ap number_out c.before.turn-cw.ensures
 
 pub rg_turn_cw_spec : {M : Type 1} → statement M
 rg_turn_cw_spec = tie.close (tie.spec turn-cw-requires number-out-requires returns)

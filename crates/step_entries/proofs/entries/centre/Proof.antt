@@ -6,7 +6,7 @@ use Rattle.index.specs.Layout.{Valid}
 use Rattle.index.specs.Refusals.{answered, refused}
 use Rattle.index.proofs.Answers.{of_cell, of_refusal, past_cell, hit_cell}
 use Rattle.index.proofs.Rules.{none_answered}
-use Rattle.centres.specs.Centres.{centreOf}
+use Rattle.centres.specs.Centres.{centre_of}
 use Rattle.step_entries.proofs.entries.centre.Statement.{statement}
 use Rattle.step_entries.proofs.entries.centre.Tie as tie
 
@@ -40,7 +40,7 @@ returns-2 c =
     let d = c.before in
     let s = d.before.before.before.before.args in
     let v = cell d in
-    ap answered (c.centre.ensures ∙ ap centreOf v.0) ∙ sym (past_cell s.raw [] _ v.1 ∙ none_answered _)
+    ap answered (c.centre.ensures ∙ ap centre_of v.0) ∙ sym (past_cell s.raw [] _ v.1 ∙ none_answered _)
 
 pub centre_spec : {M : Type 1} → statement M
 centre_spec =

@@ -6,7 +6,7 @@ use Rattle.index.specs.Layout.{Valid}
 use Rattle.index.specs.Refusals.{answered, refused}
 use Rattle.index.proofs.Answers.{of_cell, of_refusal, past_cell, hit_cell}
 use Rattle.index.proofs.Rules.{none_answered}
-use Rattle.turns.specs.Turns.{pentagonTurned}
+use Rattle.turns.specs.Turns.{pentagon_turned}
 use Rattle.step_entries.proofs.entries.pentagon_turn.Statement.{statement}
 use Rattle.step_entries.proofs.entries.pentagon_turn.Tie as tie
 
@@ -37,7 +37,7 @@ returns-2 c =
     let d = c.before in
     let s = d.before.before.before.args in
     let v = cell d in
-    ap answered (c.pentagon-rotate60.ensures ∙ ap (pentagonTurned s.ccw) v.0) ∙ sym (past_cell s.raw [] _ v.1 ∙ none_answered _)
+    ap answered (c.pentagon-rotate60.ensures ∙ ap (pentagon_turned s.ccw) v.0) ∙ sym (past_cell s.raw [] _ v.1 ∙ none_answered _)
 
 pub pentagon_turn_spec : {M : Type 1} → statement M
 pentagon_turn_spec =

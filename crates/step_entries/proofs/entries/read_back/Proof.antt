@@ -13,10 +13,10 @@ use Rattle.index.specs.Refusals.{Outcome, answered, refused}
 use Rattle.index.proofs.Rules.{past, hit, none_answered}
 use Rattle.plane.specs.Ranges.{point_in_range, Within}
 use Rattle.plane.specs.declared.ijk.IJK.{IJK}
-use Rattle.centres.specs.Centres.{Reads, toldRead}
+use Rattle.centres.specs.Centres.{Reads, read_told}
 use Rattle.centres.specs.declared.centre.Read.{Read}
 use Rattle.centres.specs.contracts.centre.Read as read-type
-use Rattle.entry.specs.Rules.{rangeRule}
+use Rattle.entry.specs.Rules.{range_rule}
 use Rattle.step_entries.specs.Steps.{Under, ReadsBack}
 use Rattle.entry.proofs.Judges.{within, outside, wider}
 use Rattle.step_entries.proofs.entries.read_back.Statement.{statement}
@@ -55,19 +55,19 @@ number-of-requires c κs = search rules
 module _ (r : ℕ) (p : IJK) where
   too_long : (k : ℕ) → 15 < r → k ≡ 8 → ReadsBack r p (refused k)
   too_long k h e =
-      subst (λ (o : Outcome (Unit {0})). Under o (Reads r p) (refused k)) (sym (hit 8 _ (rangeRule p ∷ []) tt (lt-ltb _ _ h))) (ap refused e)
+      subst (λ (o : Outcome (Unit {0})). Under o (Reads r p) (refused k)) (sym (hit 8 _ (range_rule p ∷ []) tt (lt-ltb _ _ h))) (ap refused e)
 
   no_range : (k : ℕ) → r ≤ 15 → not (point_in_range p) ≡ true → k ≡ 14 → ReadsBack r p (refused k)
   no_range k h f e =
-      subst (λ (o : Outcome (Unit {0})). Under o (Reads r p) (refused k)) (sym (past 8 _ (rangeRule p ∷ []) tt (le-ltb _ _ h) ∙ hit _ _ [] tt f)) (ap refused e)
+      subst (λ (o : Outcome (Unit {0})). Under o (Reads r p) (refused k)) (sym (past 8 _ (range_rule p ∷ []) tt (le-ltb _ _ h) ∙ hit _ _ [] tt f)) (ap refused e)
 
   reads : (o x : Outcome ℕ) (n : ℕ) (q : IJK) → r ≤ 15 → not (point_in_range p) ≡ false → n ≡ r → q ≡ p → Reads n q o → o ≡ x → ReadsBack r p x
   reads o x n q h f en eq w e =
-      subst (λ (u : Outcome (Unit {0})). Under u (Reads r p) x) (sym (past 8 _ (rangeRule p ∷ []) tt (le-ltb _ _ h) ∙ past _ _ [] tt f ∙ none_answered tt))
+      subst (λ (u : Outcome (Unit {0})). Under u (Reads r p) x) (sym (past 8 _ (range_rule p ∷ []) tt (le-ltb _ _ h) ∙ past _ _ [] tt f ∙ none_answered tt))
       (subst (λ (m : ℕ). Reads m p x) en (subst (λ (t : IJK). Reads n t x) eq (subst (Reads n q) e w)))
 
 -- no string was found
-none : (b : Read) → Run.OneOf (1 ∷ []) (Declared.tag_of read-type.the_type b) → toldRead b ≡ refused 15
+none : (b : Read) → Run.OneOf (1 ∷ []) (Declared.tag_of read-type.the_type b) → read_told b ≡ refused 15
 none (Read.Found c) o = absurd (suc-ne-zero 0 (sym o))
 none Read.NoString o = refl
 
@@ -93,13 +93,13 @@ read-back-requires c κs =
     (subst (λ (x : ℕ). x ≤ 15) (sym c.resolution.ensures) e.if1.false, wider _ _ _ w.0 w.1 (omega arith))
 
 -- what reading back said, of the numbers themselves
-said : (c : tie.After-read-back) (x : Outcome ℕ) → toldRead c.read_back.result ≡ x → let s = c.before.before.before.before.before.before.before.args in ReadsBack s.length s.p x
+said : (c : tie.After-read-back) (x : Outcome ℕ) → read_told c.read_back.result ≡ x → let s = c.before.before.before.before.before.before.before.args in ReadsBack s.length s.p x
 said c x e =
     let d = c.before.before in
     let f = d.before.before.before.before in
     let s = f.before.args in
     let w = place d in
-    reads s.length s.p (toldRead c.read_back.result) x _ _ f.if1.false w.2 c.before.resolution.ensures w.0 c.read_back.ensures e
+    reads s.length s.p (read_told c.read_back.result) x _ _ f.if1.false w.2 c.before.resolution.ensures w.0 c.read_back.ensures e
 
 returns-3 : tie.Need-returns-3
 returns-3 c =
@@ -109,7 +109,7 @@ returns-3 c =
 returns-4 : tie.Need-returns-4
 returns-4 c =
     let b = c.before.before.before.before in
-    said b _ (ap toldRead c.before.before.b.given.1 ∙ ap answered (sym c.number_of_lem.ensures))
+    said b _ (ap read_told c.before.before.b.given.1 ∙ ap answered (sym c.number_of_lem.ensures))
 
 pub read_back_spec : {M : Type 1} → statement M
 read_back_spec =

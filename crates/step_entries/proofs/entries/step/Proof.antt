@@ -9,7 +9,7 @@ use Rattle.index.proofs.Answers.{of_cell, of_refusal, past_cell, hit_cell}
 use Rattle.index.proofs.Rules.{past, hit, none_answered}
 use mathlib.Core.Bool.{◌||◌, false}
 use lib.Dec.{eqb, ltb}
-use Rattle.entry.specs.Rules.{onwardRule}
+use Rattle.entry.specs.Rules.{onward_rule}
 use Rattle.step_entries.specs.Steps.{after}
 use Rattle.entry.proofs.Judges.{to_onward, nowhere}
 use Rattle.grid.specs.Steps as steps
@@ -57,7 +57,7 @@ returns c =
     let s = c.before.before.before.before.args in
     let a = c.before.before.before.check in
     ap refused c.refusal.ensures
-    ∙ sym (ap (λ (o : Outcome (Unit {0})). after o (steps.step_of s.raw s.direction)) (hit_cell s.raw (onwardRule s.direction ∷ []) tt _ (of_refusal s.raw a.result c.before.before.match.keys2 a.ensures)))
+    ∙ sym (ap (λ (o : Outcome (Unit {0})). after o (steps.step_of s.raw s.direction)) (hit_cell s.raw (onward_rule s.direction ∷ []) tt _ (of_refusal s.raw a.result c.before.before.match.keys2 a.ensures)))
 
 returns-2 : tie.Need-returns-2
 returns-2 c =
@@ -66,7 +66,7 @@ returns-2 c =
     let b = c.before.before.before.onward in
     ap refused c.refusal2.ensures
     ∙ sym (ap (λ (o : Outcome (Unit {0})). after o (steps.step_of s.raw s.direction))
-    (past_cell s.raw (onwardRule s.direction ∷ []) tt (cell d).1 ∙ hit _ _ _ _ (nowhere s.direction _ b.result c.before.before.match2.keys2 b.ensures)))
+    (past_cell s.raw (onward_rule s.direction ∷ []) tt (cell d).1 ∙ hit _ _ _ _ (nowhere s.direction _ b.result c.before.before.match2.keys2 b.ensures)))
 
 step-requires : tie.Need-step-requires
 step-requires c κs =
@@ -82,7 +82,7 @@ returns-3 c =
     let v = cell d in
     let w = way e in
     c.stepped.ensures ∙ c.before.step.ensures ∙ ap₂ steps.step_of v.0 w.0
-    ∙ sym (ap (λ (o : Outcome (Unit {0})). after o (steps.step_of s.raw s.direction)) (past_cell s.raw (onwardRule s.direction ∷ []) tt v.1 ∙ past _ _ _ _ w.3 ∙ none_answered _))
+    ∙ sym (ap (λ (o : Outcome (Unit {0})). after o (steps.step_of s.raw s.direction)) (past_cell s.raw (onward_rule s.direction ∷ []) tt v.1 ∙ past _ _ _ _ w.3 ∙ none_answered _))
 
 pub step_spec : {M : Type 1} → statement M
 step_spec =

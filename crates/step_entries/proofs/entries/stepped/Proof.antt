@@ -7,7 +7,7 @@ use native.Mathlib.Omega.{arith}
 use denote.Enum.Declared
 use types.Run
 use Rattle.index.specs.Refusals.{answered, refused}
-use Rattle.grid.specs.Steps.{inside, leaves, toldStep}
+use Rattle.grid.specs.Steps.{inside, leaves, step_told}
 use Rattle.grid.specs.declared.algo.Stepped.{Stepped}
 use Rattle.grid.specs.contracts.algo.Stepped as stepped-type
 use Rattle.step_entries.proofs.entries.stepped.Statement.{statement}
@@ -38,13 +38,13 @@ refusal-requires : tie.Need-refusal-requires
 refusal-requires c κs = search rules
 
 returns : tie.Need-returns
-returns c = ap (λ (n : ℕ). answered (inside n c.before.before.s.given.0.1.0)) c.number_of_lem.ensures ∙ sym (ap toldStep c.before.before.s.given.1)
+returns c = ap (λ (n : ℕ). answered (inside n c.before.before.s.given.0.1.0)) c.number_of_lem.ensures ∙ sym (ap step_told c.before.before.s.given.1)
 
 returns-2 : tie.Need-returns-2
-returns-2 c = (λ i. answered (leaves (c.value.ensures i))) ∙ sym (ap toldStep c.before.before.s2.given.1)
+returns-2 c = (λ i. answered (leaves (c.value.ensures i))) ∙ sym (ap step_told c.before.before.s2.given.1)
 
 -- the arm of the deleted way
-deleted : (s : Stepped) → Run.OneOf (2 ∷ []) (Declared.tag_of stepped-type.the_type s) → toldStep s ≡ refused 17
+deleted : (s : Stepped) → Run.OneOf (2 ∷ []) (Declared.tag_of stepped-type.the_type s) → step_told s ≡ refused 17
 deleted (Stepped.Inside n t) o = absurd (let z = o in omega arith)
 deleted (Stepped.Leaves d) o = absurd (let z = o in omega arith)
 deleted Stepped.DeletedWay o = refl

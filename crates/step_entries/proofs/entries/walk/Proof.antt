@@ -9,9 +9,9 @@ use Rattle.index.proofs.Answers.{of_cell, of_refusal, past_cell, hit_cell}
 use Rattle.index.proofs.Rules.{past, hit, none_answered}
 use mathlib.Core.Bool.{◌||◌, false}
 use lib.Dec.{eqb, ltb}
-use Rattle.entry.specs.Rules.{onwardRule}
+use Rattle.entry.specs.Rules.{onward_rule}
 use Rattle.entry.proofs.Judges.{to_onward, nowhere}
-use Rattle.walks.specs.Walks.{walkedOf, carryOf}
+use Rattle.walks.specs.Walks.{walked_of, carry_of}
 use Rattle.step_entries.proofs.entries.walk.Statement.{statement}
 use Rattle.step_entries.proofs.entries.walk.Tie as tie
 
@@ -58,7 +58,7 @@ returns : tie.Need-returns
 returns c =
     let s = c.before.before.before.before.args in
     let a = c.before.before.before.check in
-    ap refused c.refusal.ensures ∙ sym (hit_cell s.raw (onwardRule s.direction ∷ []) _ _ (of_refusal s.raw a.result c.before.before.match.keys2 a.ensures))
+    ap refused c.refusal.ensures ∙ sym (hit_cell s.raw (onward_rule s.direction ∷ []) _ _ (of_refusal s.raw a.result c.before.before.match.keys2 a.ensures))
 
 returns-2 : tie.Need-returns-2
 returns-2 c =
@@ -66,7 +66,7 @@ returns-2 c =
     let s = d.before.before.before.before.args in
     let b = c.before.before.before.onward in
     ap refused c.refusal2.ensures
-    ∙ sym (past_cell s.raw (onwardRule s.direction ∷ []) _ (cell d).1 ∙ hit _ _ _ _ (nowhere s.direction _ b.result c.before.before.match2.keys2 b.ensures))
+    ∙ sym (past_cell s.raw (onward_rule s.direction ∷ []) _ (cell d).1 ∙ hit _ _ _ _ (nowhere s.direction _ b.result c.before.before.match2.keys2 b.ensures))
 
 walk-requires : tie.Need-walk-requires
 walk-requires c κs =
@@ -81,9 +81,9 @@ returns-3 c =
     let s = d.before.before.before.before.args in
     let v = cell d in
     let w = way e in
-    let n = c.before.walk.ensures.0 ∙ ap₂ walkedOf v.0 w.0 in
-    let k = c.value.ensures ∙ c.before.walk.ensures.1 ∙ ap₂ carryOf v.0 w.0 in
-    (λ i. answered (n i, k i)) ∙ sym (past_cell s.raw (onwardRule s.direction ∷ []) _ v.1 ∙ past _ _ _ _ w.3 ∙ none_answered _)
+    let n = c.before.walk.ensures.0 ∙ ap₂ walked_of v.0 w.0 in
+    let k = c.value.ensures ∙ c.before.walk.ensures.1 ∙ ap₂ carry_of v.0 w.0 in
+    (λ i. answered (n i, k i)) ∙ sym (past_cell s.raw (onward_rule s.direction ∷ []) _ v.1 ∙ past _ _ _ _ w.3 ∙ none_answered _)
 
 pub walk_spec : {M : Type 1} → statement M
 walk_spec =

@@ -5,17 +5,17 @@ use mathlib.Core.Bool.{Bool, cond}
 use Prim.Native.Nat.{ℕ, ◌≤◌}
 use native.Mathlib.Omega.{arith}
 use lib.Dec.{eqb}
-use Rattle.index.specs.Layout.{resOf, first_of}
-use Rattle.turns.specs.Turns.{turnedBy, pentagonTurned}
+use Rattle.index.specs.Layout.{res_of, first_of}
+use Rattle.turns.specs.Turns.{turned_by, pentagon_turned}
 use Rattle.index.proofs.View.{first_used}
 use Rattle.index.proofs.Digitwise.{chosen_le}
 use Rattle.turns.proofs.turn.pentagon_rotate60.Statement.{statement}
 use Rattle.turns.proofs.turn.pentagon_rotate60.Tie as tie
 
 -- in the words of the calls
-law : (o : Bool) (n m b f k y : ℕ) → m ≡ n → b ≡ cond o 3 5 → f ≡ first_of m (resOf m) → k ≡ cond (eqb f b) 2 1 → y ≡ turnedBy o k n → y ≡ pentagonTurned o n
-unfolding pentagonTurned
-law o n m b f k y em eb ef ek ey = ey ∙ rw (ek, ef, eb, em, first_used n (resOf n))
+law : (o : Bool) (n m b f k y : ℕ) → m ≡ n → b ≡ cond o 3 5 → f ≡ first_of m (res_of m) → k ≡ cond (eqb f b) 2 1 → y ≡ turned_by o k n → y ≡ pentagon_turned o n
+unfolding pentagon_turned
+law o n m b f k y em eb ef ek ey = ey ∙ rw (ek, ef, eb, em, first_used n (res_of n))
 
 sel-requires : tie.Need-sel-requires
 sel-requires c κs = search rules

@@ -6,10 +6,10 @@ use mathlib.Core.Logic.{◌⊎◌, inl, inr, ⊎_elim}
 use Prim.Native.Nat.{ℕ, ◌-◌, ◌^◌, ◌<◌, ◌≤◌}
 use native.Mathlib.Omega.{arith}
 use Rattle.plane.specs.Strings.{odd}
-use Rattle.index.specs.Layout.{digit, resOf, Valid}
+use Rattle.index.specs.Layout.{digit, res_of, Valid}
 use Rattle.index.specs.Written.{Written}
-use Rattle.walks.specs.Tables.{newDigit, adjustment}
-use Rattle.walks.specs.Walks.{walkedOf, carryOf}
+use Rattle.walks.specs.Tables.{new_digit, adjustment}
+use Rattle.walks.specs.Walks.{walked_of, carry_of}
 use Rattle.walks.proofs.Tables.{digit_below}
 use Rattle.walks.proofs.Walks.{Walking, begin, old_below, onward, ended, stopped, walk_ends}
 use Rattle.walks.proofs.algo.walk.Statement.{statement}
@@ -17,8 +17,8 @@ use Rattle.walks.proofs.algo.walk.Tie as tie
 
 record Inv (m k way n r c : ℕ) : Type 0 where
   cell : Valid m
-  res : k ≡ resOf m
-  walking : Walking m (resOf m) way n r c
+  res : k ≡ res_of m
+  walking : Walking m (res_of m) way n r c
 
 abbrev invariant_loop : tie.invariant_loop
 invariant_loop _ _ _ _ n₀ r₀ way₀ n r way = Inv n₀ r₀ way₀ n r way
@@ -27,13 +27,13 @@ abbrev decreases_loop : tie.decreases_loop
 decreases_loop _ _ _ _ n₀ r₀ way₀ n r way = r
 
 -- in the words of the calls
-first : (x d m k way res : ℕ) → Valid x → d < 7 → m ≡ x → res ≡ resOf x → k ≡ res → way ≡ d → Inv m k way m k way
+first : (x d m k way res : ℕ) → Valid x → d < 7 → m ≡ x → res ≡ res_of x → k ≡ res → way ≡ d → Inv m k way m k way
 first x d m k way res v h em er ek ed =
-    let e : k ≡ resOf m = ek ∙ er ∙ ap resOf (sym em) in
+    let e : k ≡ res_of m = ek ∙ er ∙ ap res_of (sym em) in
     record {
       cell = subst Valid (sym em) v;
       res = e;
-      walking = subst (λ (j : ℕ). Walking m (resOf m) way m j way) (sym e) (begin m (resOf m) way (subst (λ (j : ℕ). j < 7) (sym ed) h));
+      walking = subst (λ (j : ℕ). Walking m (res_of m) way m j way) (sym e) (begin m (res_of m) way (subst (λ (j : ℕ). j < 7) (sym ed) h));
     }
 
 module _ (m k way n r c at old : ℕ) (i : Inv m k way n r c) (p : 0 < r) (ea : at ≡ r) (eo : old ≡ digit n at) where
@@ -43,25 +43,25 @@ module _ (m k way n r c at old : ℕ) (i : Inv m k way n r c) (p : 0 < r) (ea : 
   same : old ≡ digit n r
   same = eo ∙ ap (digit n) ea
 
-  small : (s : ℕ) → 1 ≤ s → s ≤ resOf m → digit m s ≤ 6
+  small : (s : ℕ) → 1 ≤ s → s ≤ res_of m → digit m s ≤ 6
   small = i.cell.small
 
   below : digit n r < 7
-  below = old_below m (resOf m) way (omega arith) small n r c p i.walking
+  below = old_below m (res_of m) way (omega arith) small n r c p i.walking
 
   old_small : old < 7
   old_small = subst (λ (x : ℕ). x < 7) (sym same) below
 
-  next : (o : Bool) (new a d z : ℕ) → o ≡ odd r → new ≡ newDigit o old c → a ≡ adjustment o old c → d ≡ new → Written n at d z → Inv m k way z (r - 1) a
+  next : (o : Bool) (new a d z : ℕ) → o ≡ odd r → new ≡ new_digit o old c → a ≡ adjustment o old c → d ≡ new → Written n at d z → Inv m k way z (r - 1) a
   next o new a d z e1 e2 e3 e4 w =
-      let w' : Written n r (newDigit (odd r) (digit n r) c) z = subst₂ (λ (x y : ℕ). Written n x y z) ea (e4 ∙ e2 ∙ ap₂ (λ (x : Bool) (y : ℕ). newDigit x y c) e1 same) w in
+      let w' : Written n r (new_digit (odd r) (digit n r) c) z = subst₂ (λ (x y : ℕ). Written n x y z) ea (e4 ∙ e2 ∙ ap₂ (λ (x : Bool) (y : ℕ). new_digit x y c) e1 same) w in
       record {
         cell = i.cell;
         res = i.res;
-        walking = subst (Walking m (resOf m) way z (r - 1)) (sym (e3 ∙ ap₂ (λ (x : Bool) (y : ℕ). adjustment x y c) e1 same)) (onward m (resOf m) way (omega arith) small n r c z p i.walking w');
+        walking = subst (Walking m (res_of m) way z (r - 1)) (sym (e3 ∙ ap₂ (λ (x : Bool) (y : ℕ). adjustment x y c) e1 same)) (onward m (res_of m) way (omega arith) small n r c z p i.walking w');
       }
 
-  new_small : (o : Bool) (new : ℕ) → new ≡ newDigit o old c → new < 7
+  new_small : (o : Bool) (new : ℕ) → new ≡ new_digit o old c → new < 7
   new_small o new e = subst (λ (x : ℕ). x < 7) (sym e) (digit_below o old c old_small i.walking.direction)
 
 -- an entry of a pair of tables
@@ -70,12 +70,12 @@ of_tables f true old way x two three e p q = e ∙ p
 of_tables f false old way x two three e p q = e ∙ q
 
 -- the loop is left at the last digit, or at the direction 0
-done : (m k way n r c x d e : ℕ) → n < 2 ^ 64 → Inv m k way n r c → (r ≤ 0) ⊎ (c ≡ 0) → m ≡ x → way ≡ d → e ≡ c → (n ≡ walkedOf x d) × (e ≡ carryOf x d)
+done : (m k way n r c x d e : ℕ) → n < 2 ^ 64 → Inv m k way n r c → (r ≤ 0) ⊎ (c ≡ 0) → m ≡ x → way ≡ d → e ≡ c → (n ≡ walked_of x d) × (e ≡ carry_of x d)
 done m k way n r c x d e h i o em ed ee =
-    let small : (s : ℕ) → 1 ≤ s → s ≤ resOf m → digit m s ≤ 6 = i.cell.small in
-    let f = ⊎_elim (λ (z : r ≤ 0). ended m (resOf m) way (omega arith) small n r c (omega arith) i.walking) (λ (z : c ≡ 0). stopped m (resOf m) way (omega arith) small n r c z i.walking) o in
+    let small : (s : ℕ) → 1 ≤ s → s ≤ res_of m → digit m s ≤ 6 = i.cell.small in
+    let f = ⊎_elim (λ (z : r ≤ 0). ended m (res_of m) way (omega arith) small n r c (omega arith) i.walking) (λ (z : c ≡ 0). stopped m (res_of m) way (omega arith) small n r c z i.walking) o in
     let g = walk_ends m way n r c h i.cell i.walking f in
-    (g.0 ∙ ap₂ walkedOf em ed, ee ∙ g.1 ∙ ap₂ carryOf em ed)
+    (g.0 ∙ ap₂ walked_of em ed, ee ∙ g.1 ∙ ap₂ carry_of em ed)
 
 number-of-requires : tie.Need-number-of-requires invariant_loop decreases_loop
 number-of-requires c κs = search rules
@@ -162,8 +162,8 @@ cast-digit : tie.Need-overflow-cast-digit invariant_loop decreases_loop
 cast-digit c = search rules
 
 -- the new digit is the table's
-new_is : (c : tie.After-of-pair invariant_loop decreases_loop) → let o = c.before.before.before in c.of_pair.result ≡ newDigit o.is_odd.result o.before.direction.result o.before.before.before.before.before.loop.way
-new_is c = let o = c.before.before.before in of_tables newDigit o.is_odd.result o.before.direction.result o.before.before.before.before.before.loop.way _ _ _ c.of_pair.ensures refl refl
+new_is : (c : tie.After-of-pair invariant_loop decreases_loop) → let o = c.before.before.before in c.of_pair.result ≡ new_digit o.is_odd.result o.before.direction.result o.before.before.before.before.before.loop.way
+new_is c = let o = c.before.before.before in of_tables new_digit o.is_odd.result o.before.direction.result o.before.before.before.before.before.loop.way _ _ _ c.of_pair.ensures refl refl
 
 new_below : (c : tie.After-of-pair invariant_loop decreases_loop) → c.of_pair.result < 7
 new_below c =

@@ -2,7 +2,7 @@
 use borrow.Author.Rules.{rules}
 use mathlib.Core.Path.{refl}
 use native.Mathlib.Nat.{not-suc-le-zero}
-use Rattle.words.specs.Lines.{partsFrom}
+use Rattle.words.specs.Lines.{parts_from}
 use Rattle.words.proofs.line.Line.new.Statement.{statement}
 use Rattle.words.proofs.line.Line.new.Tie as tie
 
@@ -10,7 +10,7 @@ new-requires : tie.Need-new-requires
 new-requires c κs = search rules
 
 returns : tie.Need-returns
-unfolding partsFrom
+unfolding parts_from
 returns c =
     record {
       begun = record { long = refl; wide = refl; same = refl };
