@@ -17,7 +17,7 @@ use Rattle.words.specs.declared.word.Word.{Word}
 use Rattle.words.specs.declared.line.Line.{Line}
 use Rattle.words.proofs.Numerals.{and_true, and_false}
 
-parts_from_snoc : (p : Parts) (bs : List ℕ) (b : ℕ) → parts_from p (bs ++ (b ∷ [])) ≡ part (parts_from p bs) b
+pub parts_from_snoc : (p : Parts) (bs : List ℕ) (b : ℕ) → parts_from p (bs ++ (b ∷ [])) ≡ part (parts_from p bs) b
 unfolding parts_from
 parts_from_snoc p [] b = refl
 parts_from_snoc p (a ∷ bs) b = parts_from_snoc (part p a) bs b
@@ -118,7 +118,7 @@ begun_same l r bs h n s =
 pub whole : (l r : Line) → Closes l r → (bs : List ℕ) → Scans l bs → Whole r bs
 whole l r c bs s = record { begun = begun_same l r bs c.head c.long s.begun; words = c.more (parts bs).ended (parts bs).next s.ended s.next }
 
-holds_same : (l r : Line) (ws : List (List ℕ)) → r.words ≡ l.words → r.count ≡ l.count → Holds l ws → Holds r ws
+pub holds_same : (l r : Line) (ws : List (List ℕ)) → r.words ≡ l.words → r.count ≡ l.count → Holds l ws → Holds r ws
 holds_same l r ws w n s = record { many = n ∙ s.many; wide = ap length w ∙ s.wide; each = λ i k m. rw w (s.each i k m) }
 
 -- a byte more

@@ -1,4 +1,6 @@
 // Reading requests: a line, its words and the numbers that they spell, byte by byte in constant space.
+#![tactic(auto)]
+
 mod line;
 mod word;
 

@@ -7,7 +7,7 @@ ghost use Rattle.words.specs.Reading.{unread, Scans, Whole, Notes, Closes};
 use crate::word::{Number, Signed, Small, Word};
 
 // `length` and `count` stop at 16 and 9: no request is named by more bytes or has more words.
-#[derive(Drop)]
+#[derive(Clone, Copy)]
 pub struct Line {
     head: [u8; 16],
     length: usize,
@@ -17,6 +17,7 @@ pub struct Line {
 }
 
 impl Line {
+    #[tactic(auto, unfolding(crate::specs::Lines::partsFrom))]
     pub fn new() -> Self
         ensures { Scans result [] }
     {
@@ -36,6 +37,7 @@ impl Line {
         self.length == 0
     }
 
+    #[tactic(auto, using(crate::proofs::Scanning::partsFrom_snoc, crate::proofs::Scanning::holds_same))]
     pub fn fed(self, b: u8) -> Self
         ensures { (bs : List ℕ) → Scans self bs → Scans result (bs ++ (b ∷ [])) }
     {

@@ -3,19 +3,19 @@ ghost use Rattle.std.specs.Prelude.{◌≡◌, true, List, [], ◌∷◌, ◌++�
 ghost use Rattle.words.specs.Numeral.{digit_of, hexadecimal, natural64, natural32, integer32};
 ghost use Rattle.words.specs.Reading.{Spells, Reads, natural, negated};
 
-#[derive(Drop)]
+#[derive(Clone, Copy)]
 pub enum Number {
     Value(u64),
     Nothing,
 }
 
-#[derive(Drop)]
+#[derive(Clone, Copy)]
 pub enum Small {
     Value(u32),
     Nothing,
 }
 
-#[derive(Drop)]
+#[derive(Clone, Copy)]
 pub enum Signed {
     Value(i32),
     Nothing,
@@ -23,7 +23,7 @@ pub enum Signed {
 
 // Digits of one base so far: their value, how many (17 for more), and whether the value is lost,
 // to a byte that is no digit or to 64 bits.
-#[derive(Drop)]
+#[derive(Clone, Copy)]
 pub struct Digits {
     value: u64,
     count: u64,
@@ -31,7 +31,7 @@ pub struct Digits {
 }
 
 // A `-` in front belongs to `decimal` only.
-#[derive(Drop)]
+#[derive(Clone, Copy)]
 pub struct Word {
     minus: bool,
     hex: Digits,
@@ -58,6 +58,7 @@ fn digit(b: u8) -> u64
 }
 
 impl Digits {
+    #[tactic(auto, unfolding(crate::specs::Numeral::digits, crate::specs::Numeral::onward))]
     fn new() -> Self
         ensures { (base : ℕ) → Spells base result [] }
     {
@@ -158,6 +159,7 @@ impl Word {
         }
     }
 
+    #[tactic(auto, using(crate::proofs::Readings::hexadecimal_short))]
     pub fn hexadecimal(self) -> Number
         ensures { (bs : List ℕ) → Reads self bs → result ≡ hexadecimal bs }
     {
@@ -168,6 +170,7 @@ impl Word {
         hex.number()
     }
 
+    #[tactic(auto, using(crate::proofs::Readings::natural_minus))]
     pub fn natural64(self) -> Number
         ensures { (bs : List ℕ) → Reads self bs → result ≡ natural64 bs }
     {
