@@ -17,7 +17,7 @@ pub struct Line {
 }
 
 impl Line {
-    #[tactic(auto, unfolding(crate::specs::Lines::partsFrom))]
+    #[tactic(auto, unfolding(crate::specs::Lines::parts_from))]
     pub fn new() -> Self
         ensures { Scans result [] }
     {
@@ -37,7 +37,7 @@ impl Line {
         self.length == 0
     }
 
-    #[tactic(auto, using(crate::proofs::Scanning::partsFrom_snoc, crate::proofs::Scanning::holds_same))]
+    #[tactic(auto, using(crate::proofs::Scanning::parts_from_snoc, crate::proofs::Scanning::holds_same))]
     pub fn fed(self, b: u8) -> Self
         ensures { (bs : List ℕ) → Scans self bs → Scans result (bs ++ (b ∷ [])) }
     {
