@@ -43,15 +43,17 @@ def module(path):
 
 
 def defined(text):
-    """The own names of a file that are to be changed, and all that it defines at the top."""
+    """The own names of a file that are to be changed, and all that it defines."""
     own, every = set(), set()
     for line in text.split("\n"):
         if line.startswith(("use ", "pub use ", "--", "mod ", "pub mod ")):
             continue
         inside = INSIDE.match(line)
         head = HEAD.match(line)
-        if inside and is_old(inside.group(1)):
-            own.add(inside.group(1))
+        if inside:
+            every.add(inside.group(1))
+            if is_old(inside.group(1)):
+                own.add(inside.group(1))
         elif head:
             every.add(head.group(1))
             if is_old(head.group(1)) and not is_goal(head.group(2)):
@@ -85,7 +87,8 @@ def main():
         here = module(p) if p.endswith(".antt") else None
         names, taken = set(own.get(here, ())), set(every.get(here, ()))
         for mod, items, alias in uses(t):
-            names |= {n for n in items if n in own.get(mod, ())} | (own.get(mod, set()) if alias else set())
+            old = own.get(mod, set()) | {n for n in re.findall(WORD, t) if is_old(n) and snake(n) in every.get(mod, ())}
+            names |= old if alias else old & set(items)
             taken |= set(items)
         bad += [(p, n) for n in sorted(names) if snake(n) in taken]
         new[p] = turn(t, names | {f for f in fields if "." + f in t})

@@ -14,7 +14,7 @@ use Rattle.plane.specs.Directions.{turn, turns}
 use Rattle.plane.specs.Strings.{Digits}
 use Rattle.plane.proofs.Every.{every, at}
 use Rattle.plane.proofs.Turns.{turns_below, turn_undone, six_turns}
-use Rattle.index.specs.Layout.{resOf, base_of, isPentagonal, Valid}
+use Rattle.index.specs.Layout.{res_of, base_of, is_pentagonal, Valid}
 use Rattle.index.specs.View.{used, pack, first, Fit}
 use Rattle.turns.specs.Turns.{turned_by, pentagon_count, pentagon_turned}
 use Rattle.index.proofs.Runs.{length_used}
@@ -97,10 +97,10 @@ pentagon_first false x h = no_one (λ (x : ℕ). turns false (cond (eqb x 5) 2 1
 
 module _ (o : Bool) (n : ℕ) (v : Valid n) where
   abbrev ds : List ℕ
-  ds = used n (resOf n)
+  ds = used n (res_of n)
 
   -- turned by a count all but the last rule of a cell are kept
-  pub fit_turned : (k : ℕ) → (isPentagonal (base_of n) ≡ true → turns o k (first ds) ≡ 1 → ⊥) → Fit (base_of n) (map (turns o k) ds)
+  pub fit_turned : (k : ℕ) → (is_pentagonal (base_of n) ≡ true → turns o k (first ds) ≡ 1 → ⊥) → Fit (base_of n) (map (turns o k) ds)
   fit_turned k kept =
       let f = fit n v in
       record {
@@ -122,14 +122,14 @@ module _ (o : Bool) (n : ℕ) (v : Valid n) where
     unfolding turned_by
     turned_base = loose_base (base_of n) (map (turns o k) ds) base_room room (digits_turned o k ds (fit n v).digits)
 
-    pub turned_res : resOf (turned_by o k n) ≡ resOf n
+    pub turned_res : res_of (turned_by o k n) ≡ res_of n
     unfolding turned_by
-    turned_res = loose_res (base_of n) (map (turns o k) ds) base_room room (digits_turned o k ds (fit n v).digits) ∙ length_turned o k ds ∙ length_used n (resOf n)
+    turned_res = loose_res (base_of n) (map (turns o k) ds) base_room room (digits_turned o k ds (fit n v).digits) ∙ length_turned o k ds ∙ length_used n (res_of n)
 
-    pub turned_used : used (turned_by o k n) (resOf n) ≡ map (turns o k) ds
+    pub turned_used : used (turned_by o k n) (res_of n) ≡ map (turns o k) ds
     unfolding turned_by
     turned_used =
-        subst (λ (r : ℕ). used (pack (base_of n) (map (turns o k) ds)) r ≡ map (turns o k) ds) (length_turned o k ds ∙ length_used n (resOf n))
+        subst (λ (r : ℕ). used (pack (base_of n) (map (turns o k) ds)) r ≡ map (turns o k) ds) (length_turned o k ds ∙ length_used n (res_of n))
         (loose_used (base_of n) (map (turns o k) ds) base_room room (digits_turned o k ds (fit n v).digits))
 
   pub fit_pentagon_turned : Fit (base_of n) (map (turns o (pentagon_count o ds)) ds)
@@ -144,13 +144,13 @@ module _ (o : Bool) (n : ℕ) (v : Valid n) where
   unfolding pentagon_turned turned_by
   pentagon_turned_base = pack_base (base_of n) (map (turns o (pentagon_count o ds)) ds) fit_pentagon_turned
 
-  pub pentagon_turned_res : resOf (pentagon_turned o n) ≡ resOf n
+  pub pentagon_turned_res : res_of (pentagon_turned o n) ≡ res_of n
   unfolding pentagon_turned turned_by
-  pentagon_turned_res = pack_res (base_of n) (map (turns o (pentagon_count o ds)) ds) fit_pentagon_turned ∙ length_turned o (pentagon_count o ds) ds ∙ length_used n (resOf n)
+  pentagon_turned_res = pack_res (base_of n) (map (turns o (pentagon_count o ds)) ds) fit_pentagon_turned ∙ length_turned o (pentagon_count o ds) ds ∙ length_used n (res_of n)
 
-  pub pentagon_turned_coarsest : n < 2 ^ 64 → resOf n ≡ 0 → pentagon_turned o n ≡ n
+  pub pentagon_turned_coarsest : n < 2 ^ 64 → res_of n ≡ 0 → pentagon_turned o n ≡ n
   unfolding pentagon_turned turned_by used
-  pentagon_turned_coarsest h e = coarsest (resOf n) e (packed n h v)
+  pentagon_turned_coarsest h e = coarsest (res_of n) e (packed n h v)
     where
       coarsest : (r : ℕ) → r ≡ 0 → pack (base_of n) (used n r) ≡ n → pack (base_of n) (map (turns o (pentagon_count o (used n r))) (used n r)) ≡ n
       coarsest zero e p = p

@@ -11,7 +11,7 @@ use lib.Pow.{pow_pos}
 use lib.Dec.{T, eqb, ltb, ltb→lt}
 use Rattle.plane.specs.Directions.{turns}
 use Rattle.plane.proofs.Every.{every, at, at_eq}
-use Rattle.index.specs.Layout.{digit, resOf}
+use Rattle.index.specs.Layout.{digit, res_of}
 use Rattle.index.specs.View.{used}
 use Rattle.index.specs.Written.{WithDigits}
 use Rattle.index.specs.Words.{Each}
@@ -132,8 +132,8 @@ used_mapped f n y zero l h = refl
 used_mapped f n y (suc k) l h = ap₂ ◌∷◌ (h (suc k) (omega arith) l) (used_mapped f n y k (omega arith) h)
 
 -- the word in the number's place: every digit is turned, and an unused 7 stays
-pub placed : (o : Bool) (k n t : ℕ) → k ≤ 5 → ((r : ℕ) → resOf n < r → r ≤ 15 → digit n r ≡ 7) → Each (turns o k) (n % 2 ^ 45) t →
-    WithDigits n (map (turns o k) (used n (resOf n))) (n - n % 2 ^ 45 + t)
+pub placed : (o : Bool) (k n t : ℕ) → k ≤ 5 → ((r : ℕ) → res_of n < r → r ≤ 15 → digit n r ≡ 7) → Each (turns o k) (n % 2 ^ 45) t →
+    WithDigits n (map (turns o k) (used n (res_of n))) (n - n % 2 ^ 45 + t)
 placed o k n t h q w =
     let y : ℕ = n - n % 2 ^ 45 + t in
     let e : y % 2 ^ 45 ≡ t = low n t w.short in
@@ -141,7 +141,7 @@ placed o k n t h q w =
     digit_low y (3 * (15 - r)) (omega arith) ∙ rw e (w.each r l u) ∙ ap (turns o k) (sym (digit_low n (3 * (15 - r)) (omega arith))) in
     record {
       upper = high n t w.short;
-      digits = used_mapped (turns o k) n y (resOf n) (omega arith) all;
+      digits = used_mapped (turns o k) n y (res_of n) (omega arith) all;
       rest = λ r l u. all r (omega arith) u ∙ ap (turns o k) (q r l u) ∙ turns_seven o k h ∙ sym (q r l u);
     }
   where

@@ -1,7 +1,7 @@
 // Turns of cells (index/bits.rs).
 ghost use Rattle.std.specs.Prelude.{◌≡◌, true, map, ℕ, ◌^◌, ◌≤◌, ◌<◌};
 ghost use Rattle.plane.specs.Directions.{turns};
-ghost use Rattle.index.specs.Layout.{Valid, resOf, digit};
+ghost use Rattle.index.specs.Layout.{Valid, res_of, digit};
 ghost use Rattle.index.specs.View.{used};
 ghost use Rattle.index.specs.Written.{WithDigits};
 ghost use Rattle.index.specs.Words.{Each};
@@ -48,8 +48,8 @@ fn turn_word(x: u64, count: u64) -> u64
 
 // A number with each used digit turned; under a pentagon base cell it need be no cell, before or after.
 pub fn turn_digits(n: u64, ccw: bool, count: u8) -> u64
-    requires { ((s : ℕ) → resOf n < s → s ≤ 15 → digit n s ≡ 7) × (count ≤ 5) }
-    ensures { WithDigits n (map (turns ccw count) (used n (resOf n))) result }
+    requires { ((s : ℕ) → res_of n < s → s ≤ 15 → digit n s ≡ 7) × (count ≤ 5) }
+    ensures { WithDigits n (map (turns ccw count) (used n (res_of n))) result }
 {
     let k = count as u64;
     let x = n % DIGITS_END;

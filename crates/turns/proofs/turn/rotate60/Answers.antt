@@ -1,7 +1,7 @@
 -- A number with its digits written is the cell of those digits.
 use Rattle.std.proofs.Common.{ℕ, map, subst, arith}
 use Rattle.plane.specs.Directions.{turns}
-use Rattle.index.specs.Layout.{resOf}
+use Rattle.index.specs.Layout.{res_of}
 use Rattle.index.specs.View.{used}
 use Rattle.index.specs.Written.{WithDigits}
 use Rattle.index.proofs.Redrawn.{redrawn_cell}
@@ -11,4 +11,4 @@ use Rattle.turns.proofs.turn.rotate60.Goals as goal
 pub returns : goal.returns
 unfolding turned_by
 returns c =
-    redrawn_cell _ _ _ (omega arith) c.requires.0 (subst (λ (m : ℕ). WithDigits m (map (turns c.args.ccw c.args.count) (used m (resOf m))) c.turn_digits.result) c.number_of.ensures c.turn_digits.ensures)
+    redrawn_cell _ _ _ (omega arith) c.requires.0 (subst (λ (m : ℕ). WithDigits m (map (turns c.args.ccw c.args.count) (used m (res_of m))) c.turn_digits.result) c.number_of.ensures c.turn_digits.ensures)
