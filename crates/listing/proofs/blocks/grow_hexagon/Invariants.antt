@@ -1,0 +1,10 @@
+-- All is written to the end of the first block of the level j.
+use Rattle.std.proofs.Common.{◌-◌, ◌≤◌, false}
+use Rattle.listing.proofs.Levels.{Level}
+use Rattle.listing.proofs.blocks.grow_hexagon.Given as goal
+
+abbrev pub invariant-loop-j : goal.invariant-loop-j
+invariant-loop-j l = record { at_most : l.j ≤ l.m; level : Level false l.base l.unit l.m l.fn.buf l.buf 0 l.size l.step l.j }
+
+abbrev pub decreases-loop-j : goal.decreases-loop-j
+decreases-loop-j l = l.m - l.j
