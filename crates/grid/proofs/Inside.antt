@@ -13,7 +13,6 @@ use lib.ListN.{length}
 use borrow.Author.Tests.{eqb-true, eqb-false}
 use Rattle.plane.specs.Directions.{turns}
 use Rattle.plane.specs.Strings.{Digits, odd}
-use Rattle.plane.proofs.Every.{at}
 use Rattle.index.specs.Layout.{digit, base_of, res_of, is_pentagonal, first_of, Valid}
 use Rattle.index.specs.View.{used, pack, first, Fit}
 use Rattle.index.specs.Refusals.{Outcome, answered, refused}
