@@ -43,7 +43,7 @@ pub overflow_mul-bits : goal.overflow_mul-bits
 overflow_mul-bits c = omega (arith, rounds.one_small _ _ _ _ _ _ c.loop-r.invariant c.loop-r-test.true _ (c.place-one.ensures ∙ ap (λ (i : ℕ). 8 ^ (15 - i)) c.resolution.ensures))
 
 pub overflow_sub-bits : goal.overflow_sub-bits
-overflow_sub-bits c = rounds.enough _ _ _ _ _ _ c.loop-r.invariant c.loop-r-test.true _ (c.place-one.ensures ∙ ap (λ (i : ℕ). 8 ^ (15 - i)) c.resolution.ensures) _ _ (c.direction-d.ensures ∙ ap (digit (c.loop-r.bits + c.place-one.result)) c.resolution-in-loop-r.ensures) c.is_skipped.ensures c.if-is_skipped.false c.if-d-lt7.false
+overflow_sub-bits c = omega (arith, rounds.enough _ _ _ _ _ _ c.loop-r.invariant c.loop-r-test.true _ (c.place-one.ensures ∙ ap (λ (i : ℕ). 8 ^ (15 - i)) c.resolution.ensures) _ _ (c.direction-d.ensures ∙ ap (digit (c.loop-r.bits + c.place-one.result)) c.resolution-in-loop-r.ensures) c.is_skipped.ensures c.if-is_skipped.false c.if-d-lt7.false)
 
 pub loop-r-preserved : goal.loop-r-preserved
 loop-r-preserved c = rounds.again _ _ _ _ _ _ c.loop-r.invariant c.loop-r-test.true _ (c.place-one.ensures ∙ ap (λ (i : ℕ). 8 ^ (15 - i)) c.resolution.ensures) _ _ (c.direction-d.ensures ∙ ap (digit (c.loop-r.bits + c.place-one.result)) c.resolution-in-loop-r.ensures) c.is_skipped.ensures c.if-is_skipped.false c.if-d-lt7.false

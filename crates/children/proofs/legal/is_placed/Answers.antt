@@ -14,7 +14,7 @@ pub is_counted-requires : goal.is_counted-requires
 is_counted-requires c = judging.p_fits _ _ (omega arith) c.requires.0 c.requires.1 _ _ _ _ _ _ _ _ c.number_of-number.ensures c.resolution_number-target.ensures c.resolution_of.ensures c.resolution.ensures c.ancestor.ensures c.is_pentagon-pent.ensures c.count_down-total.ensures c.rank_of-p.ensures
 
 pub skip_count-requires : goal.skip_count-requires
-skip_count-requires c = omega (arith, c.leading.ensures, judging.lead_small c.number_of-number.result c.resolution_number-target.result (omega arith))
+skip_count-requires c = omega (arith, c.leading.ensures, judging.lead_small c.number_of-number.result c.resolution_number-target.result (omega arith), judging.lead_small c.number_of-number.result c.args.own (omega arith))
 
 pub returns-then-is_counted : goal.returns-then-is_counted
 returns-then-is_counted c =
