@@ -44,6 +44,13 @@ module _ (d : ℕ) where
       go true o = refl
       go false o = absurd (suc-ne-zero 0 (sym o))
 
+  pub nowhere_is : (t : Bool) (a : Heading) → a ≡ Heading.Nowhere → a ≡ headed t → t ≡ true
+  nowhere_is t a n e = go t (sym n ∙ e)
+    where
+      go : (t : Bool) → Heading.Nowhere ≡ headed t → t ≡ true
+      go true r = refl
+      go false r = let z : ◌≡◌ {A = ℕ} 0 1 = cc in absurd (suc-ne-zero 0 (sym z))
+
   pub to : (a : Heading) (x : Direction) → a ≡ Heading.To x → a ≡ headed (ltb 6 d) → (x.0 ≡ d) × (d < 7) × (ltb 6 d ≡ false)
   to a x p q = let r = passed (ltb 6 d) a x p q in (r.0, omega (arith, ltb-false 6 d r.1), r.1)
 
@@ -69,6 +76,13 @@ module _ (t : IJK) where
       go : (b : Bool) → Run.OneOf (1 ∷ []) (Declared.tag_of place-type.the_type (cond b (Place.Within t) Place.Outside)) → not b ≡ true
       go true o = absurd (suc-ne-zero 0 (sym o))
       go false o = refl
+
+  pub outside_is : (a : Place) → a ≡ Place.Outside → a ≡ place_of t → not (point_in_range t) ≡ true
+  outside_is a o e = go (point_in_range t) (sym o ∙ e)
+    where
+      go : (b : Bool) → Place.Outside ≡ cond b (Place.Within t) Place.Outside → not b ≡ true
+      go true r = let z : ◌≡◌ {A = ℕ} 0 1 = cc in absurd (suc-ne-zero 0 (sym z))
+      go false r = refl
 
 -- an entry whose rules are those of one point
 module _ {A : Type 0} (p : IJK) where
