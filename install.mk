@@ -1,4 +1,4 @@
-# make install and make uninstall, for the Makefile to include; it has the rule for $(LIB).
+# make install and make uninstall, for the Makefile to include; it has the rules for $(LIB) and hexline.
 # BUILT=1 installs what stands in target/, without rt.
 PREFIX = /usr/local
 INTO = $(DESTDIR)$(PREFIX)
@@ -10,13 +10,10 @@ VERSION := $(MAJOR).$(call version,MINOR).$(call version,PATCH)
 SONAME = librivetgnome.so.$(MAJOR)
 SO = target/so/librivetgnome.so.$(VERSION)
 
-.PHONY: install uninstall prefix so hexline test-install
+.PHONY: install uninstall prefix so test-install
 
 prefix:
 	@case '$(PREFIX)' in /*) ;; *) echo 'PREFIX must begin with /' >&2; exit 1 ;; esac
-
-hexline:
-	@mkdir -p target && rt check hexline >target/run.log 2>&1 || { cat target/run.log; exit 1; }
 
 # The functions that the header declares are visible, and nothing else; one that the archive lacks stops the link.
 so: $(if $(BUILT),,$(LIB))

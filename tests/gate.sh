@@ -1,5 +1,5 @@
 #!/bin/sh
-# The whole gate, for `make test`: rt ci from nothing, then the tests from outside over what it built.
+# The whole gate, for `make test`: rt ci over all crates, then the tests from outside over the program that it built and the archive that rt lib builds.
 # Its last line is rt ci's own where all is green, else 'N passed, K failed' with K at least 1.
 set -u
 cd "$(dirname "$0")/.." || exit 1
@@ -17,6 +17,20 @@ case $passed:$failed in
 esac
 [ "$(cat "$work/status")" = 0 ] || [ "$failed" != 0 ] || failed=1
 
+# An edit that cannot be applied or read shows nothing; rt ci only counts it, in its line 'rt: ok'.
+if [ "$failed" = 0 ]; then
+    ok=$(grep '^rt: ok; ' "$work/log" | tail -n 1)
+    bad=$(printf '%s\n' "$ok" | sed -n 's/.*must-fail edits: [^;]*, \([0-9][0-9]*\) bad.*/\1/p')
+    if [ -z "$ok" ]; then
+        echo "gate: rt ci did not say 'rt: ok'"
+        failed=1
+    elif [ "${bad:-0}" != 0 ]; then
+        echo "gate: bad must-fail edits: $bad"
+        failed=$bad
+    fi
+fi
+mkdir -p target && cp "$work/log" target/ci.log || failed=$((failed + 1))
+
 # part NAME COMMAND..: a part that fails is one more failure; one that was skipped is not called done
 part() {
     name=$1
@@ -29,12 +43,17 @@ part() {
         echo "gate: $name: done"
     fi
 }
+# The program that rt ci built and ran, to where the tests and `make install` look for it.
+program() {
+    mkdir -p target/bin && rm -f target/bin/hexline && cp crates/hexline/out/hexline target/bin/hexline
+}
 if [ "$failed" = 0 ]; then
-    part 'layout of the sources' rt fmt --check
     part 'the border of index::inside' tests/border.sh
     part 'the wrong programs' tests/refused.sh
-    part 'the statements' tests/statements.sh
+    part 'the program' program
     part 'the archive' make -s lib
+    part 'what they rest on' make -s report BUILT=1
+    part 'the statements' tests/statements.sh
     part 'from C and C++' make -s test-c BUILT=1
     part 'the Python binding' make -s test-python BUILT=1
     part 'the line program' tests/hexline.sh

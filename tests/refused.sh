@@ -1,21 +1,28 @@
 #!/bin/sh
-# Reads the log of every must-fail edit that rt ci tried. The first error must be a fact that fails: an edit whose proof only no longer fits
-# the program (a place that is gone, a tactic that finds nothing) shows nothing, and one with no log was not tried.
+# Reads what rt ci (or rt must-fail) printed of every must-fail edit. The first error must be a fact that fails: an edit whose proof only no longer fits
+# the program (a place that is gone, a tactic that finds nothing) shows nothing, and one that is not named there was not tried.
+#   tests/refused.sh [LOG]      what was printed, default target/ci.log
+# rt prints 160 characters of that error. Where they end before they say what fails, the error must at least have none of the words of `weak`.
 set -u
 cd "$(dirname "$0")/.." || exit 1
-weak='has no `Need-|was not admitted|not in scope|no instance|no occurrence|needs a function \(or path\) type|has no field|components but its type|cannot be named|parse|is refused by'
+log=${1:-target/ci.log}
+[ -f "$log" ] || { echo "refused: there is no $log"; exit 1; }
+fact='it is not proved that |two types (first )?differ |expected type .*, but this has type|the goal does not follow from what it read'
+weak='only because a proof file names|only by a limit|has no `|was not admitted|not in scope|no instance|no occurrence|needs a function \(or path\) type|has no field|components but its type|cannot be named|parse|is refused by'
+# is the text as long as rt prints at most?
+cut_off() { printf '%s' "$1" | python3 -c 'import sys; sys.exit(len(sys.stdin.buffer.read().decode()) != 160)'; }
 status=0
 for f in crates/*/must-fail/*.edit; do
     e=$(echo "$f" | sed 's#crates/\(.*\)/must-fail/\(.*\).edit#\1/\2#')
-    log=target/must-fail/$e/.log
-    if [ ! -f "$log" ]; then
-        echo "refused: $e was not tried: no $log"
+    line=$(grep -F "rt: must-fail $e.edit: " "$log" | tail -n 1)
+    said=${line#"rt: must-fail $e.edit: "}
+    first=${said#'refused, as it must be: '}
+    if [ -z "$line" ]; then
+        echo "refused: $e was not tried: $log does not name it"
         status=1
-        continue
-    fi
-    first=$(grep -m1 ': error: ' "$log")
-    if [ -z "$first" ] || printf '%s\n' "$first" | grep -qE "$weak"; then
-        echo "refused: $e shows no failing fact: ${first:-no error}"
+    elif [ "$first" = "$said" ] || printf '%s\n' "$first" | grep -qE "$weak" ||
+        { ! printf '%s\n' "$first" | grep -qE "$fact" && ! cut_off "$first"; }; then
+        echo "refused: $e shows no failing fact: $said"
         status=1
     fi
 done

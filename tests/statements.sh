@@ -1,19 +1,23 @@
 #!/bin/sh
-# Holds docs/STATEMENTS.md to the tree, for the gate. Its table of entries has a row for each public entry (a function that crate hex passes on) and
+# Holds docs/STATEMENTS.md to the tree, for the gate. Its table of entries has a row for each public entry (a function that crate hexagons passes on) and
 # names each export of rivetgnome; in a row, the statement is a definition that the entry's `ensures` cites, the theorem is there, and each
 # of at least two edits is there and changes a program. Each refusal has a row, whose theorems are there. Every edit is named somewhere in the
-# document. The counts at its end are those of tests/counts.sh, and its lines of axioms are what the prover reported of each crate when rt ci proved
-# it (target/log).
+# document. The counts at its end are those of tests/counts.sh. Each crate was proved, as rt ci says, in this run or with the same files in an earlier
+# one, and the lines of what is assumed are what the prover reports of the library and the program (tests/rests.sh).
+#   tests/statements.sh [LOG]      what rt ci printed, default target/ci.log
 set -u
 cd "$(dirname "$0")/.." || exit 1
+log=${1:-target/ci.log}
 doc=docs/STATEMENTS.md
 bad=$(mktemp) && trap 'rm -f "$bad"' EXIT
 say() { echo "statements: $*" >>"$bad"; }
 
 # | entry | export | statement | theorem | the export's theorem | edits | as lines with tabs, the backquotes dropped
 rows=$(sed -n '/^| entry |/,/^$/p' "$doc" | sed -n '3,$p' | tr -d '`' | sed 's/^| *//; s/ *|$//; s/ *| */\t/g')
-names=$(sed -n 's/^pub use [a-z_]*::\([a-z][a-z0-9_]*\);$/\1/p' crates/hex/src/lib.rt)
+names=$(tests/entries.sh)
+[ -n "$names" ] || say 'hexagons passes no function on'
 exports=$(sed -n 's/^pub extern "C" fn \(rg_[a-z0-9_]*\)(.*/\1/p' crates/rivetgnome/src/*.rt)
+[ -n "$exports" ] || say 'rivetgnome exports nothing'
 for n in $names; do
     [ "$(printf '%s\n' "$rows" | cut -f1 | tr ', ' '\n\n' | grep -cx "$n")" = 1 ] || say "entry $n has no row of its own"
 done
@@ -46,7 +50,7 @@ printf '%s\n' "$rows" | while IFS="$(printf '\t')" read -r entries given stateme
     [ $count -ge 2 ] || [ "$given" = rg_version ] || say "$entries: fewer than two wrong programs"
 done
 for n in 1 2 3 4 5 6 7 8 9 10 11 12 13 14 15 16 17; do
-    told=$(sed -n "s/^| $n |.*| \([^|]*\) |\$/\1/p" "$doc" | grep -o '`[a-z0-9-]*`' | tr -d '`')
+    told=$(sed -n "s/^| $n |.*| \([^|]*\) |\$/\1/p" "$doc" | grep -o '`[a-z0-9_]*`' | tr -d '`')
     [ -n "$told" ] || say "refusal $n has no row, or a row without a theorem"
     for t in $told; do
         grep -qE "^ *pub $t( |$)" crates/*/proofs/*.antt || say "$t (refusal $n) is no theorem"
@@ -56,13 +60,12 @@ for f in crates/*/must-fail/*.edit; do
     e=$(echo "$f" | sed 's#crates/\(.*\)/must-fail/\(.*\).edit#\1/\2#')
     grep -qF "\`$e\`" "$doc" || say "edit $e is not named"
 done
-for c in $(sed -n 's/^\([a-z_]*\):.*/\1/p' crates.txt); do
-    log=target/log/$c.out
-    grep -q '^logic=proved' "$log" 2>/dev/null || say "$c: no report of the prover in $log"
-    sed -n "s/^axioms \([a-z]*\): \(.*\) (.*/    $c rests on \1: \2/p" "$log" 2>/dev/null
-done >"$bad.axioms"
-grep '^    [a-z_]* rests on ' "$doc" | cmp -s - "$bad.axioms" || say "the axioms are not those of the prover: $(cat "$bad.axioms")"
-rm -f "$bad.axioms"
+for c in $(sed -n 's/^\([a-z0-9_]*\)\( [^:]*\)\{0,1\}:.*/\1/p' crates.txt); do
+    grep -qE "^rt: $c (proved$|is kept: )" "$log" 2>/dev/null || say "$c: $log does not say that it is proved"
+done
+rests=$(tests/rests.sh)
+[ "$(grep '^    [a-z_]* rests on ' "$doc")" = "$rests" ] || say "what is assumed is not what the prover reports:
+$rests"
 [ "$(tests/counts.sh)" = "$(sed -n '/^    crate /,$p' "$doc")" ] || say 'the counts are not those of tests/counts.sh'
 if [ -s "$bad" ]; then
     cat "$bad"

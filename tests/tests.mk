@@ -1,5 +1,5 @@
-# Tests of the archive from outside, for the Makefile at the root to include; it has the rule for
-# $(LIB). A part that this machine cannot run says 'skipped: ..' in one line and is no failure, but
+# Tests of the archive from outside, for the Makefile at the root to include; it has the rules for
+# $(LIB) and hexline. A part that this machine cannot run says 'skipped: ..' in one line and is no failure, but
 # for `make differ`, `make bench` and `make sample`, which were asked for by name.
 C_WARN = -Wall -Wextra -Werror -pedantic
 C_HAS = printf '%s\n' '\#include <stdint.h>' | $(1) -fsyntax-only - 2>/dev/null
@@ -52,7 +52,6 @@ test-rust: $(LIB)
 	else cd bindings/rust && RIVETGNOME_LIB="$(CURDIR)/target/staticlib" CARGO_TARGET_DIR="$(CURDIR)/target/rust" cargo test --offline --locked -q; fi
 
 # The archive and hexline under abuse; the gate has shorter runs.
-abuse: $(LIB)
-	@mkdir -p target && rt check hexline >target/run.log 2>&1 || { cat target/run.log; exit 1; }
+abuse: $(LIB) hexline
 	@tests/abuse/run.sh calls $(or $(N),20000000) 1000000 $(SEED)
 	@tests/abuse/run.sh lines 2000000 $(SEED)

@@ -17,7 +17,7 @@ build() {
 build release
 build lto -C lto=fat -C codegen-units=1
 echo "machine: $(sed -n 's/^model name[^:]*: //p' /proc/cpuinfo | sed 1q), $(nproc) cores"
-echo "compilers: $(rustc -V); $(rt --version 2>/dev/null | sed 1q)"
+echo "compilers: $(rustc -V); $(rt version 2>/dev/null | sed 1q)"
 echo "commit: $(git rev-parse --short HEAD 2>/dev/null || echo unknown)$(git diff --quiet HEAD 2>/dev/null || echo ', changed')"
 echo 'Nanoseconds an element, the least of 200 rounds in 25 passes over 65,536 inputs (listings: 64 cells), seed 1, sides and rows by turns. A figure above 1 under `times` says that ours is faster.'
 echo

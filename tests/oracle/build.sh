@@ -18,7 +18,7 @@ command -v cc >/dev/null || skip 'Debian package gcc'
 echo 'pub fn f(n: u32) -> bool { n.is_multiple_of(3) }' |
     rustc --edition 2024 --crate-type lib --crate-name probe --emit metadata --out-dir "$out" - 2>/dev/null ||
     skip 'rustc is too old for h3o 0.11.1; Debian package rustc of a later release'
-[ -f "$archive" ] || { echo "no $archive: rt staticlib rivetgnome" >&2; exit 1; }
+[ -f "$archive" ] || { echo "no $archive: make lib" >&2; exit 1; }
 # As a release is built: the Rust's own overflow and debug checks are off.
 flags='--edition 2024 -O -C debug-assertions=off -C overflow-checks=off'
 
