@@ -9,7 +9,7 @@ use native.Mathlib.Omega.{arith}
 use lib.Pow.{pow-add}
 use lib.ListN.{length, length-append}
 use Rattle.index.specs.Layout.{res_of, base_of, Valid}
-use Rattle.index.specs.View.{used, octal, pack, first, Fit}
+use Rattle.index.specs.View.{used, octal, pack, Fit}
 use Rattle.index.proofs.Runs.{eights_pos, length_used}
 use Rattle.index.proofs.View.{packed, fit, first_used, pack_fits, pack_valid, pack_res, pack_base, pack_used}
 use Rattle.descent.specs.Descendants.{pentagon, count_of}

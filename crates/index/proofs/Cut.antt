@@ -4,7 +4,7 @@ use Rattle.std.proofs.Common.{◌≡◌, ℕ, zero, suc, ◌+◌, ◌-◌, ◌*�
 use native.Mathlib.Nat.{mod-le}
 use lib.Arith.{digits_lt}
 use Rattle.index.specs.Layout.{res_of, base_of, first_of, Valid}
-use Rattle.index.specs.View.{used, pack, first, Fit}
+use Rattle.index.specs.View.{used, pack, Fit}
 use Rattle.index.specs.Ancestor.{ancestor_of}
 use Rattle.index.proofs.Runs.{eights_pos, run, octal_used, length_used}
 use Rattle.index.proofs.Sum.{sum}

@@ -1,5 +1,5 @@
 -- By the laws of `First`.
-use Rattle.std.proofs.Common.{◌≡◌, ◌%◌, ◌^◌, ap, ◌∙◌, arith}
+use Rattle.std.proofs.Common.{◌≡◌, ap, ◌∙◌, arith}
 use Rattle.index.specs.Layout.{digit, first_of, res_of}
 use Rattle.index.proofs.First.{lead, beyond, within}
 use Rattle.index.proofs.bits.first_axe.Goals as goal

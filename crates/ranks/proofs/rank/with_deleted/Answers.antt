@@ -1,10 +1,8 @@
 -- By the laws of `Shifts`: what is deleted is found from above, and is enough.
-use Rattle.std.proofs.Common.{◌≡◌, ◌+◌, ◌^◌, ◌<◌, true, false, sym, ◌∙◌, arith}
-use Rattle.index.specs.View.{octal}
+use Rattle.std.proofs.Common.{◌<◌, true, false, sym, ◌∙◌, arith}
 use Rattle.descent.specs.Descendants.{count}
-use Rattle.descent.specs.Positions.{below}
 use Rattle.descent.proofs.Below.{octal_zero}
-use Rattle.descent.proofs.Shifts.{stage_first, stage_fits, stage_next, stage_last, octal_sixteen}
+use Rattle.descent.proofs.Shifts.{stage_first, stage_next, stage_last, octal_sixteen}
 use Rattle.ranks.proofs.rank.with_deleted.Goals as goal
 
 pub returns-then-p-eq0 : goal.returns-then-p-eq0
