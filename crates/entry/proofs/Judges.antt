@@ -1,4 +1,4 @@
--- What an entry learns of a direction and of a point that were judged. Assumes nothing.
+-- What an entry learns of a direction, of a point and of a cell that were judged. Assumes nothing.
 use mathlib.Core.Path.{◌≡◌, refl, sym, ap, ◌∙◌, subst}
 use mathlib.Core.Bool.{Bool, true, false, not, cond, ◌||◌}
 use mathlib.Core.List.{List, [], ◌∷◌}
@@ -9,7 +9,10 @@ use denote.Enum.Declared
 use types.Run
 use lib.Dec.{T, eqb, ltb}
 use borrow.Author.Tests.{ltb-false, eqb-false}
-use Rattle.index.specs.Refusals.{Rule, answered, refused, judged}
+use Rattle.index.specs.Refusals.{Rule, answered, refused, judged, number_of}
+use Rattle.index.specs.Check.{check_of, told}
+use Rattle.index.specs.declared.Checked.{Checked}
+use Rattle.index.specs.declared.Refusal.{Refusal}
 use Rattle.index.proofs.Some.{both_off}
 use Rattle.index.proofs.Rules.{past, hit, none_answered}
 use Rattle.plane.specs.Ranges.{point_in_range, Within}
@@ -99,6 +102,10 @@ wider m p q e w h =
     let j = w.j in
     let k = w.k in
     subst (λ (x : IJK). Within m x) (sym e) (record { i = omega arith; j = omega arith; k = omega arith })
+
+-- a cell that the check refused
+pub cell_refused : (n : ℕ) (a : Checked) (x : Refusal) → a ≡ Checked.Refused x → told a ≡ check_of n → check_of n ≡ refused (number_of (told a))
+cell_refused n a x p e = sym e ∙ ap told p ∙ ap (λ (y : Checked). refused (number_of (told y))) (sym p)
 
 -- an entry whose rules begin with that of a direction
 pub refuse_way : {A : Type 0} (d : ℕ) (rules : List Rule) (x : ℕ) (a : A) → ltb 6 d ≡ true → x ≡ 13 → refused x ≡ judged (way_rule d ∷ rules) a
