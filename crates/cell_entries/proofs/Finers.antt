@@ -9,8 +9,10 @@ use lib.Dec.{ltb}
 use borrow.Author.Tests.{ltb-false}
 use Rattle.index.specs.Layout.{Valid, res_of}
 use Rattle.index.specs.Refusals.{Rule, ◌when◌, answered, refused, number_of, judged, Clear}
-use Rattle.index.specs.Check.{cell_rules}
+use Rattle.index.specs.Check.{cell_rules, check_of, told}
 use Rattle.index.specs.declared.Cell.{Cell}
+use Rattle.index.specs.declared.Checked.{Checked}
+use Rattle.index.specs.declared.Refusal.{Refusal}
 use Rattle.index.specs.declared.Resolution.{Resolution}
 use Rattle.index.proofs.Rules.{answered_same, answered_clear, clear_parts, cleared, early}
 use Rattle.index.proofs.Validity.{clear_valid}
@@ -59,3 +61,14 @@ module _ {A : Type 0} (raw t : ℕ) (more : List Rule) (b : A) where
 
   pub refuse_finer : (a : Wanted) (x : ℕ) → Run.OneOf (1 ∷ []) (Declared.tag_of wanted-type.the_type a) → wanted_told a ≡ finer_of raw t → x ≡ number_of (wanted_told a) → refused x ≡ judged (finer_rules raw t ++ more) b
   refuse_finer a x o e n = ap refused n ∙ sym (early (finer_rules raw t) more (raw, t) b _ (unwanted raw t a o e))
+
+  pub refuse_wanted : (a : Wanted) (y : Refusal) (x : ℕ) → a ≡ Wanted.Refused y → wanted_told a ≡ finer_of raw t → x ≡ number_of (wanted_told a) → refused x ≡ judged (finer_rules raw t ++ more) b
+  refuse_wanted a y x p e n =
+      let z : finer_of raw t ≡ refused y.0 = sym e ∙ ap wanted_told p in
+      ap refused (n ∙ ap (λ (w : Wanted). number_of (wanted_told w)) p) ∙ sym (early (finer_rules raw t) more (raw, t) b _ z)
+
+-- an entry whose rules begin with those of a cell, where the check handed in has refused
+pub refuse_cell : {A : Type 0} (n : ℕ) (more : List Rule) (b : A) (a : Checked) (y : Refusal) (x : ℕ) → a ≡ Checked.Refused y → told a ≡ check_of n → x ≡ number_of (told a) → refused x ≡ judged (cell_rules n ++ more) b
+refuse_cell n more b a y x p e k =
+    let z : check_of n ≡ refused y.0 = sym e ∙ ap told p in
+    ap refused (k ∙ ap (λ (w : Checked). number_of (told w)) p) ∙ sym (early (cell_rules n) more n b _ z)

@@ -63,6 +63,7 @@ pub fn next(cursor: Cursor) -> Given
 }
 
 // The descendants of a cell, once only the room is left to judge.
+#[tactic(auto, using(crate::proofs::Rooms::no_room, crate::proofs::Rooms::room))]
 fn fill(cell: Cell, t: Resolution, buf: &mut [u64]) -> Number
     requires { Valid cell.0 × (res_of cell.0 ≤ t.0) × (t.0 ≤ 15) }
     ensures { (number_told result ≡ room_of cell.0 t.0 (length buf.old)) × (buf.new ≡ afterwards (room_of cell.0 t.0 (length buf.old)) cell.0 t.0 buf.old) }
