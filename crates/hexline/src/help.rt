@@ -1,31 +1,23 @@
 // What the program says of itself, where it was started with an argument.
-use libc::STDOUT_FILENO;
+use std::io::Stdout;
 
-pub fn help() {
-    let mut word = io::buffer();
-    let n = os::arg(1, &mut word);
-    if n == 2 && word[0] == b'-' && word[1] == b'h' {
-        return forms();
+pub fn help(to: Stdout, word: &[u8]) {
+    if word == b"-h".as_slice() || word == b"--help".as_slice() {
+        return forms(to);
     }
-    if n == 6
-        && word[0] == b'-'
-        && word[1] == b'-'
-        && word[2] == b'h'
-        && word[3] == b'e'
-        && word[4] == b'l'
-        && word[5] == b'p'
-    {
-        return forms();
-    }
-    say(b"hexline: takes no argument but --help; requests come on standard input\n");
-}
-
-fn say(bytes: &[u8]) {
-    io::write_all(STDOUT_FILENO, bytes);
-}
-
-fn forms() {
     say(
+        to,
+        b"hexline: takes no argument but --help; requests come on standard input\n",
+    );
+}
+
+fn say(to: Stdout, bytes: &[u8]) {
+    let _ = to.write_all(bytes);
+}
+
+fn forms(to: Stdout) {
+    say(
+        to,
         b"hexline answers each line of standard input, a request, with one line.
 
 check H                      ok

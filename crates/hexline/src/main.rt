@@ -5,10 +5,13 @@ mod answer;
 mod help;
 mod serve;
 
-fn main() {
-    if os::arg_count() > 1 {
-        help::help();
-        return;
+use std::env::{Env, FillError};
+
+fn main(rt: HostRuntime) {
+    let mut word = [0; 4096];
+    match rt.arg(1, &mut word) {
+        Ok(n) => help::help(rt.stdout(), &word[..n]),
+        Err(FillError::TooLong) => help::help(rt.stdout(), &[]),
+        Err(FillError::NotPresent) => serve::serve(rt.stdin(), rt.stdout()),
     }
-    serve::serve();
 }

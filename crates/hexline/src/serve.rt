@@ -1,8 +1,8 @@
 // Reading to the end of the input.
 use crate::answer::answer;
-use libc::STDIN_FILENO;
 use replies::out;
 use replies::out::{Buffer, Out};
+use std::io::{Read, Stdin, Stdout};
 use words::Line;
 
 // The line that is being read, and the answers that wait.
@@ -15,12 +15,12 @@ struct Reading {
 
 impl Reading {
     // Reads once, and answers the lines that this ends. They are written before the next read.
-    fn step(self, buf: &mut Buffer) -> Reading {
+    // A read that fails is the end of the input.
+    fn step(self, input: &mut Stdin, buf: &mut Buffer) -> Reading {
         let line = self.line;
         let o = self.out;
-        let mut block = io::large_buffer();
-        let got = libc::read(STDIN_FILENO, &mut block);
-        let n = io::count(got, &block);
+        let mut block = [0; 65536];
+        let n = input.read(&mut block).unwrap_or(0);
         if n == 0 {
             return last(buf, line, o);
         }
@@ -71,8 +71,8 @@ fn scan(block: &[u8], buf: &mut Buffer, begun: Line, o: Out) -> Reading {
 }
 
 // A proved loop has to end, and nothing says that the input does: the count is one that no input meets.
-pub fn serve() {
-    let mut buf = io::large_buffer();
+pub fn serve(mut input: Stdin, output: Stdout) {
+    let mut buf = Buffer::new(output);
     let mut reading = Reading {
         line: Line::new(),
         out: Out::new(),
@@ -80,7 +80,7 @@ pub fn serve() {
     };
     let mut turns = u64::MAX;
     while turns > 0 && !reading.ended {
-        reading = reading.step(&mut buf);
+        reading = reading.step(&mut input, &mut buf);
         turns -= 1;
     }
 }

@@ -1,10 +1,24 @@
 // Answers on their way to standard output, in a lent buffer.
-ghost use Rattle.std.specs.Prelude.{◌≡◌, ◌≤◌, length, nat_abs};
+ghost use Rattle.std.specs.Prelude.{◌≡◌, nat_abs};
 
-use libc::STDOUT_FILENO;
+use std::io::Stdout;
 
-// One byte more than a u16 counts, so that no position is out of range.
-pub type Buffer = [u8; 65536];
+// The room for the answers that wait, and where they go.
+#[derive(Drop)]
+pub struct Buffer {
+    // One byte more than a u16 counts, so that no position is out of range.
+    bytes: [u8; 65536],
+    to: Stdout,
+}
+
+impl Buffer {
+    pub fn new(to: Stdout) -> Self {
+        Buffer {
+            bytes: [0; 65536],
+            to,
+        }
+    }
+}
 
 // The first `at` bytes wait. After a write that fails nothing is written any more.
 #[derive(Clone, Copy)]
@@ -28,30 +42,23 @@ pub fn flush(buf: &Buffer, o: Out) -> Out
 {
     let at = o.at as usize;
     if o.open {
-        let open = written(buf, at);
+        let open = buf.to.write_all(&buf.bytes[..at]).is_ok();
         return Out { at: 0, open };
     }
     Out { at: 0, open: false }
-}
-
-// A part of a slice, since the borrow checker covers none of an array behind a reference.
-fn written(bytes: &[u8], n: usize) -> bool
-    requires { n ≤ length bytes.now }
-{
-    io::write_all(STDOUT_FILENO, &bytes[..n])
 }
 
 pub fn byte(buf: &mut Buffer, o: Out, b: u8) -> Out {
     let at = o.at;
     if at == u16::MAX {
         let empty = flush(buf, o);
-        buf[0] = b;
+        buf.bytes[0] = b;
         return Out {
             at: 1,
             open: empty.open,
         };
     }
-    buf[at as usize] = b;
+    buf.bytes[at as usize] = b;
     Out {
         at: at + 1,
         open: o.open,
@@ -71,14 +78,12 @@ pub fn text(buf: &mut Buffer, o: Out, bytes: &[u8]) -> Out {
 // 16 digits.
 pub fn hex(buf: &mut Buffer, o: Out, n: u64) -> Out {
     let mut digits = [0u8; 16];
-    let k = io::hex(n, 16, &mut digits);
-    text(buf, o, &digits[..k])
+    hex::encode_to_slice(&n.to_be_bytes(), &mut digits).unwrap();
+    text(buf, o, &digits)
 }
 
 pub fn decimal(buf: &mut Buffer, o: Out, n: u64) -> Out {
-    let mut digits = [0u8; 20];
-    let k = io::decimal(n, &mut digits);
-    text(buf, o, &digits[..k])
+    text(buf, o, itoa::Buffer::new().format(n).as_bytes())
 }
 
 pub fn signed(buf: &mut Buffer, o: Out, n: i32) -> Out {

@@ -1,7 +1,9 @@
 // What is written for each kind of answer.
 use crate::out;
 use crate::out::{Buffer, Out};
-use hexagons::{Checked, Cursor, Given, Number, Pair, Point, Refusal, Started, Stepped, Truth, Walked};
+use hexagons::{
+    Checked, Cursor, Given, Number, Pair, Point, Refusal, Started, Stepped, Truth, Walked,
+};
 
 pub fn malformed(buf: &mut Buffer, o: Out) -> Out {
     out::text(buf, o, b"input")
