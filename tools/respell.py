@@ -18,7 +18,7 @@ USE = re.compile(r"^(?:ghost |pub )?(?:ghost )?use ([^\s{;]+?)(?:\.\{([^}]*)\})?
 
 
 # Where the name in snake case is another's.
-OTHER = {"cursorAt": "cursor_after", "sameZ": "same_whole", "directionOf": "direction_of_point"}
+OTHER = {"getD-tab": "get_or_tab", "getD_tab": "get_or_tab", "cursorAt": "cursor_after", "sameZ": "same_whole", "directionOf": "direction_of_point"}
 
 
 def snake(name):
