@@ -1,11 +1,11 @@
 // Requests that begin with a cell. A line that is none of these goes to the next group, and after the last it is malformed.
 use crate::answers::Answer;
-use crate::turns;
+use crate::senses;
 use words::{Line, Number, Small};
 
 pub fn answer(line: Line) -> Answer {
     let Number::Value(cell) = line.hexadecimal(1) else {
-        return turns::answer(line);
+        return senses::answer(line);
     };
     if line.is(b"check ", 2) {
         return Answer::Checked(hexagons::check(cell));
@@ -28,7 +28,7 @@ fn position(line: Line, first: u64) -> Answer {
 
 fn of_cell_and_number(line: Line, cell: u64) -> Answer {
     let Small::Value(n) = line.natural32(2) else {
-        return turns::answer(line);
+        return senses::answer(line);
     };
     if line.is(b"count ", 3) {
         return Answer::Number(hexagons::count(cell, n));
@@ -57,7 +57,7 @@ fn of_cell_and_number(line: Line, cell: u64) -> Answer {
     if line.is(b"childat ", 4) {
         return child_at(line, cell, n);
     }
-    turns::answer(line)
+    senses::answer(line)
 }
 
 fn child_at(line: Line, cell: u64, target: u32) -> Answer {

@@ -5,7 +5,7 @@ mod answers;
 mod cells;
 mod places;
 mod points;
-mod turns;
+mod senses;
 
 pub use answers::Answer;
 pub use cells::answer;
