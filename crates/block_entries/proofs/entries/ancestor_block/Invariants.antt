@@ -1,6 +1,5 @@
 -- The first i elements of both lent blocks are answered.
-use Rattle.std.proofs.Common.{◌-◌}
-use Rattle.std.proofs.Common.{ℕ}
+use Rattle.std.proofs.Common.{ℕ, ◌-◌}
 use Rattle.cell_entries.specs.Cells.{ancestor_of}
 use Rattle.block_entries.proofs.Fills.{Filled}
 use Rattle.block_entries.proofs.entries.ancestor_block.Given as goal
