@@ -1,5 +1,5 @@
 #!/usr/bin/env python3
-"""Brings the repository's own names in specs/ and proofs/ to snake case: a-b and aB become a_b.
+"""Brings the repository's own names in specs/ and proofs/ to snake case: a-b and aB become a_b; a type's A-b becomes AB.
 
 Run at the top, after the kit's port.py; a second run changes nothing. Own names are the definitions of the .antt files of
 crates/, at the top and inside, and the fields of their records. A goal's name (its type is one of the function's) is
@@ -12,7 +12,7 @@ import re
 import sys
 
 WORD = r"[^\s(){}.,;:λ\[\]`]+"
-HEAD = re.compile(r"^(?:(?:abbrev|unfoldable|opaque|pub|record|data)\s+)*(" + WORD + r")\s*(?:\([^:]*\)|\{[^:]*\})*\s*:(.*)")
+HEAD = re.compile(r"^(?:(?:abbrev|unfoldable|opaque|pub|record|data)\s+)*(" + WORD + r")\s*(?:\([^()]*\)\s*|\{[^{}]*\}\s*)*:(.*)")
 INSIDE = re.compile(r"^\s+(?:let |pub |abbrev |unfoldable )*(" + WORD + r")\s*(?::|=)\s")
 USE = re.compile(r"^(?:ghost |pub )?(?:ghost )?use ([^\s{;]+?)(?:\.\{([^}]*)\})?(?: as (\S+?))?;?$", re.M)
 
@@ -24,13 +24,15 @@ OTHER = {"getD-tab": "get_or_tab", "getD_tab": "get_or_tab", "cursorAt": "cursor
 def snake(name):
     if name in OTHER:
         return OTHER[name]
+    if name[0].isupper():
+        return "".join(w[0].upper() + w[1:] for w in name.split("-"))
     if re.match(r"told[A-Z]", name):
         return snake(name[4:]).lower() + "_told"
     return re.sub(r"(?<=[a-z0-9])([A-Z]+)", lambda m: "_" + m.group(1).lower(), name.replace("-", "_"))
 
 
 def is_old(name):
-    return "◌" not in name and name[0].islower() and snake(name) != name
+    return "◌" not in name and (name[0].islower() or "-" in name) and snake(name) != name
 
 
 def is_goal(kind):

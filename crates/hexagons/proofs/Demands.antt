@@ -93,11 +93,11 @@ pub buffer_listed_short : (n : ℕ) (r : Number) (before after : List ℕ) → n
     (number_told r ≡ list_short_of n (length before)) × (after ≡ afterwards (list_short_of n (length before)) n (res_of n + 1) before) → BufferMeant n (res_of n + 1) r before after
 buffer_listed_short n = buffer_listed n (res_of n + 1)
 
-pub record Walk-meant (n way y carry : ℕ) : Type 0 where
+pub record WalkMeant (n way y carry : ℕ) : Type 0 where
   pub moved : Moved n way y carry
   pub only : (z c : ℕ) → z < 2 ^ 64 → Moved n way z c → (z ≡ y) × (c ≡ carry)
 
-pub walked : (n way y carry : ℕ) → n < 2 ^ 64 → walk_of n way ≡ answered (y, carry) → Walk-meant n way y carry
+pub walked : (n way y carry : ℕ) → n < 2 ^ 64 → walk_of n way ≡ answered (y, carry) → WalkMeant n way y carry
 walked n way y carry h e =
     let c = clear_parts (cell_rules n) (onward_rule way ∷ []) (answered_clear (onward_rules n way) (walked_of n way, carry_of n way) (y, carry) e) in
     let v = clear_valid n c.0 in
