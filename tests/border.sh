@@ -12,6 +12,10 @@ done
 found=$(
     grep -rn 'inside' include bindings crates/outward/src $above
     grep -rnE '^ *pub .*inside' crates/hexagons/src crates/entry/src crates/*_entries/src
+    # an item of `pub use` may stand on a line of its own
+    for f in crates/hexagons/src/*.rt crates/entry/src/*.rt crates/*_entries/src/*.rt; do
+        sed 's#//.*##' "$f" | tr '\n' ' ' | grep -oE 'pub use [^;]*;' | grep 'inside' | sed "s#^#$f: #"
+    done
     grep -nE 'judge|below|cut' crates/hexagons/src/lib.rt
     grep -rnE 'use (entry|[a-z]*_entries)::' $above
 )

@@ -32,7 +32,7 @@ def snake(name):
 
 
 def is_old(name):
-    return "◌" not in name and (name[0].islower() or "-" in name) and snake(name) != name
+    return "◌" not in name and (name[0].islower() or name[0].isupper() and "-" in name) and snake(name) != name
 
 
 def is_goal(kind):

@@ -9,7 +9,7 @@ use Rattle.entry.proofs.Judges.{to, nowhere_is, refuse_way, within, outside_is, 
 use Rattle.point_entries.proofs.entries.neighbour.Goals as goal
 
 pub returns-in_default : goal.returns-in_default
-returns-in_default c = refuse_way c.args.direction (range_rule c.args.p ∷ []) _ _ (search (nowhere_is, c.in_default.is, c.head-heading.ensures)) c.refusal-no_way.ensures
+returns-in_default c = refuse_way c.args.direction (range_rule c.args.p ∷ []) _ _ (nowhere_is c.args.direction _ _ c.in_default.is c.head-heading.ensures) c.refusal-no_way.ensures
 
 pub returns-in_default-place : goal.returns-in_default-place
 returns-in_default-place c =
