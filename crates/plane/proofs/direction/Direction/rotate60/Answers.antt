@@ -1,7 +1,7 @@
 -- Each call is one more of the turns, or none where they are done.
 use Rattle.std.proofs.Common.{refl}
 use Rattle.plane.proofs.Turns.{unturned, turned_once_more}
-use Rattle.plane.proofs.direction.rotate60.Goals as goal
+use Rattle.plane.proofs.direction.Direction.rotate60.Goals as goal
 
 pub returns : goal.returns
 returns c =
@@ -9,4 +9,4 @@ returns c =
     let two = turned_once_more _ _ _ 1 _ _ _ refl one c.rotate60_where-two.ensures in
     let three = turned_once_more _ _ _ 2 _ _ _ refl two c.rotate60_where-three.ensures in
     let four = turned_once_more _ _ _ 3 _ _ _ refl three c.rotate60_where-four.ensures in
-    (turned_once_more _ _ _ 4 _ _ _ refl four c.rotate60_where.ensures).gone c.requires.1
+    (turned_once_more _ _ _ 4 _ _ _ refl four c.rotate60_where.ensures).gone c.requires
