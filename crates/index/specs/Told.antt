@@ -1,5 +1,5 @@
 -- Document 01's number and value of each answer.
-use Rattle.std.specs.Prelude.{ℕ, Result, Ok, Err}
+use Rattle.std.specs.Prelude.{◌≡◌, if◌then◌else◌, ℕ, Result, Ok, Err, nat_lt}
 use Rattle.index.specs.Refusals.{Outcome, answered, refused}
 use Rattle.index.specs.declared.refusal.Refusal.{Refusal}
 use Rattle.index.specs.declared.refusal.Refusal.TheVariants as refusal
@@ -27,3 +27,7 @@ number refusal.DeletedWay = 17
 abbrev pub told : {A : Type 0} → Result A Refusal → Outcome A
 told (Ok a) = answered a
 told (Err x) = refused (number x)
+
+-- refusal 8: a given resolution or length is above 15
+abbrev pub TakenAsResolution : ℕ → Result ℕ Refusal → Type 0
+TakenAsResolution r a = told a ≡ (if nat_lt 15 r then refused 8 else answered r)

@@ -1,6 +1,7 @@
 // The kinds of number that an index holds beside the cell itself.
 ghost use Rattle.std.specs.Prelude.{◌≡◌, ◌-◌, ◌^◌, ◌≤◌};
 
+use crate::Refusal;
 use std::marker::Model;
 
 // 0 to 15.
@@ -40,6 +41,21 @@ impl Resolution {
         ensures bound { self ≤ 15 }
     {
         1 << (3 * (15 - self.0))
+    }
+}
+
+impl TryFrom<u64> for Resolution {
+    ghost use Rattle.index.specs.Told.{TakenAsResolution};
+
+    type Error = Refusal;
+
+    ghost try_from_gives = { TakenAsResolution };
+
+    fn try_from(r: u64) -> Result<Self, Refusal> {
+        if r > 15 {
+            return Err(Refusal::Resolution);
+        }
+        Ok(Resolution::new_unchecked(r))
     }
 }
 
