@@ -54,7 +54,9 @@ impl Descent {
 
     // The first child: 0 in the places between the resolutions.
     pub fn first(&self) -> u64
-        ensures { result ≡ child_at self.now.cell self.now.target 0 }
+        ensures value { result ≡ child_at self.now.cell self.now.target 0 }
+        ensures valid { Valid self.now.cell }
+        ensures bound { self.now.target ≤ 15 }
     {
         let n = self.cell.number();
         let unit = self.target.place();
