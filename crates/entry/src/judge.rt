@@ -10,6 +10,7 @@ use index::Refusal;
 use plane::direction::Direction;
 use plane::ijk;
 use plane::ijk::IJK;
+use plane::rotation::Rotation;
 
 // A direction, 0 to 6.
 pub fn head(number: u32) -> Result<Direction, Refusal>
@@ -32,13 +33,13 @@ pub fn onward(number: u32) -> Result<Direction, Refusal>
 }
 
 // A turn count, 0 to 5.
-pub fn turn_count(number: u32) -> Result<u8, Refusal>
-    ensures { told result ≡ judged (count_rule number ∷ []) number }
+pub fn rotation(ccw: bool, count: u32) -> Result<Rotation, Refusal>
+    ensures { told result ≡ judged (count_rule count ∷ []) (ccw, count) }
 {
-    if 5 < number {
+    if 5 < count {
         return Err(Refusal::Range);
     }
-    Ok(number as u8)
+    Ok(Rotation::new_unchecked(ccw, count as u8))
 }
 
 // A point within the range.
