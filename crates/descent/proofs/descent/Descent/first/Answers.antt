@@ -16,4 +16,4 @@ pub overflow_sub-cleared-2 : goal.overflow_sub-cleared-2
 overflow_sub-cleared-2 c = rw c.number-n.ensures.value (steps c).less
 
 pub returns-clause-value : goal.returns-clause-value
-returns-clause-value c = rw (c.number-n.ensures.value, c.steps.ensures.value, ← c.resolution.ensures) (steps c.After-place-span).first
+returns-clause-value c = rw (c.number-n.ensures.value, c.steps.ensures.value, ← c.resolution.ensures) (steps (goal.at.returns-clause-value c).After-place-span).first
