@@ -2,6 +2,7 @@ ghost use Rattle.std.specs.Prelude.{◌≡◌, true, false, cond, ◌≤◌, ◌
 ghost use Rattle.plane.specs.Directions.{unit, turn, turns};
 
 use crate::ijk::IJK;
+use crate::rotation::Rotation;
 use std::marker::Model;
 
 // A direction, 0 to 6.
@@ -101,11 +102,12 @@ impl Direction {
         if turns { turned } else { self }
     }
 
-    // Turned `count` times, with no branch, since no count foretells the next.
-    pub fn rotate60(self, ccw: bool, count: u8) -> Self
-        requires { count ≤ 5 }
-        ensures { result ≡ turns ccw count self }
+    // Turned by a count, with no branch, since no count foretells the next.
+    pub fn rotate60(self, by: Rotation) -> Self
+        ensures { result ≡ turns by.0 by.1 self }
     {
+        let ccw = by.is_ccw();
+        let count = by.count();
         let one = self.rotate60_where(0 < count, ccw);
         let two = one.rotate60_where(1 < count, ccw);
         let three = two.rotate60_where(2 < count, ccw);

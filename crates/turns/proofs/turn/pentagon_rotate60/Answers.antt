@@ -12,4 +12,4 @@ law o n m b f k y em eb ef ek ey = ey ∙ rw (ek, ef, eb, em, first_used n (res_
 
 pub returns : goal.returns
 returns c =
-    law c.args.ccw c.args.c.0 _ _ _ _ _ c.number_of.ensures c.sel-before_one.ensures c.first_direction.ensures c.sel-count.ensures c.rotate60.ensures
+    law c.args.ccw c.args.c _ _ _ _ _ c.number.ensures.value c.sel-before_one.ensures c.first_axe.ensures c.sel-count.ensures c.rotate60.ensures
