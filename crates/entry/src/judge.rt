@@ -10,6 +10,7 @@ use index::Refusal;
 use plane::direction::Direction;
 use plane::ijk;
 use plane::ijk::IJK;
+use plane::rotation::Rotation;
 
 // A direction, 0 to 6.
 pub fn head(number: u32) -> Result<Direction, Refusal>
@@ -31,14 +32,14 @@ pub fn onward(number: u32) -> Result<Direction, Refusal>
     head(number)
 }
 
-// A turn count, 0 to 5.
-pub fn turn_count(number: u32) -> Result<u8, Refusal>
-    ensures { told result ≡ judged (count_rule number ∷ []) number }
+// Turns in one sense, 0 to 5 of them.
+pub fn rotation(count: u32, ccw: bool) -> Result<Rotation, Refusal>
+    ensures { told result ≡ judged (count_rule count ∷ []) (ccw, count) }
 {
-    if 5 < number {
+    if 5 < count {
         return Err(Refusal::Range);
     }
-    Ok(number as u8)
+    Ok(Rotation::new_unchecked(ccw, count as u8))
 }
 
 // A point within the range.

@@ -5,7 +5,7 @@ ghost use Rattle.std.specs.Prelude.{◌≡◌};
 ghost use Rattle.index.specs.Told.{told};
 ghost use Rattle.point_entries.specs.Points.{unit_of, direction_turn_of, normalise_of, neighbour_of, same_of, distance_of, to_ij_of, from_ij_of, down7_of, down3_of, point_turn_of, up7_of, direction_of_point};
 
-use entry::judge::{head, locate, turn_count};
+use entry::judge::{head, locate, rotation};
 use index::Refusal;
 use plane::ijk;
 use plane::ijk::{IJ, IJK};
@@ -21,8 +21,8 @@ pub fn direction_turn(direction: u32, count: u32, ccw: bool) -> Result<u64, Refu
     ensures { told result ≡ direction_turn_of ccw direction count }
 {
     let d = head(direction)?;
-    let n = turn_count(count)?;
-    Ok(d.rotate60(ccw, n).value() as u64)
+    let by = rotation(count, ccw)?;
+    Ok(d.rotate60(by).value() as u64)
 }
 
 pub fn normalise(p: IJK) -> Result<IJK, Refusal>
