@@ -33,7 +33,7 @@ pub fn onward(number: u32) -> Result<Direction, Refusal>
 }
 
 // Turns in one sense, 0 to 5 of them.
-pub fn rotation(count: u32, ccw: bool) -> Result<Rotation, Refusal>
+pub fn rotation(ccw: bool, count: u32) -> Result<Rotation, Refusal>
     ensures { told result ≡ judged (count_rule count ∷ []) (ccw, count) }
 {
     if 5 < count {

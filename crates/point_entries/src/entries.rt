@@ -21,7 +21,7 @@ pub fn direction_turn(direction: u32, count: u32, ccw: bool) -> Result<u64, Refu
     ensures { told result ≡ direction_turn_of ccw direction count }
 {
     let d = head(direction)?;
-    let by = rotation(count, ccw)?;
+    let by = rotation(ccw, count)?;
     Ok(d.rotate60(by).value() as u64)
 }
 

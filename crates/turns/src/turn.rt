@@ -10,6 +10,7 @@ ghost use Rattle.turns.specs.Moves.{round, flip};
 
 use index::Cell;
 use index::inside::{DIGITS_END, ONES, first_axe, sel};
+use plane::rotation::Rotation;
 
 // The k low bits of each digit.
 fn low_bits(k: u64) -> u64
@@ -46,21 +47,20 @@ fn turn_word(x: u64, count: u64) -> u64
 }
 
 // A number with each used digit turned; under a pentagon base cell it need be no cell, before or after.
-pub fn turn_digits(n: u64, ccw: bool, count: u8) -> u64
-    requires { ((s : ℕ) → res_of n < s → s ≤ 15 → digit n s ≡ 7) × (count ≤ 5) }
-    ensures { WithDigits n (map (turns ccw count) (used n (res_of n))) result }
+pub fn turn_digits(n: u64, by: Rotation) -> u64
+    requires { (s : ℕ) → res_of n < s → s ≤ 15 → digit n s ≡ 7 }
+    ensures { WithDigits n (map (turns by.0 by.1) (used n (res_of n))) result }
 {
-    let k = count as u64;
+    let k = by.count() as u64;
     let x = n % DIGITS_END;
-    n - x + turn_word(x, sel(ccw, k, 6 - k))
+    n - x + turn_word(x, sel(by.is_ccw(), k, 6 - k))
 }
 
 // A cell turned by a count: a raw number.
-pub fn rotate60(c: Cell, ccw: bool, count: u8) -> u64
-    requires { count ≤ 5 }
-    ensures { result ≡ turned_by ccw count c }
+pub fn rotate60(c: Cell, by: Rotation) -> u64
+    ensures { result ≡ turned_by by.0 by.1 c }
 {
-    turn_digits(c.number(), ccw, count)
+    turn_digits(c.number(), by)
 }
 
 // The pentagon turn: twice where one turn takes the first digit that is not 0 to 1.
@@ -69,5 +69,5 @@ pub fn pentagon_rotate60(c: Cell, ccw: bool) -> u64
 {
     let before_one = sel(ccw, 3, 5);
     let count = sel(first_axe(c.number()) == before_one, 2, 1);
-    rotate60(c, ccw, count as u8)
+    rotate60(c, Rotation::new_unchecked(ccw, count as u8))
 }
