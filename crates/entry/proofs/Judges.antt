@@ -1,5 +1,5 @@
 -- What an entry learns of a number or a point that was judged, and how its own rules go on. Assumes nothing.
-use Rattle.std.proofs.Common.{◌≡◌, ℕ, Bool, true, not, List, [], ◌∷◌, ◌++◌, ⊎_elim, sym, ap, ◌∙◌, subst, Result, Err}
+use Rattle.std.proofs.Common.{◌≡◌, ℕ, ◌≤◌, Bool, true, not, List, [], ◌∷◌, ◌++◌, ⊎_elim, sym, ap, ◌∙◌, subst, arith, Result, Err}
 use Rattle.std.specs.Result.{IsErrAnd}
 use Rattle.std.proofs.lemmas.Result.{err_from_is_err_and}
 use borrow.Author.Tests.{not-false}
@@ -45,6 +45,14 @@ pub within : (t p : IJK) → answered p ≡ judged (range_rule t ∷ []) t → W
 within t p e =
     let w = passed (range_rule t ∷ []) t p e in
     subst (Within 100000000) (sym w.0) (in_range_within t (subst T (sym (not-false (point_in_range t) w.1.0)) tt))
+
+-- a size that a larger one allows
+pub wider : (m : ℕ) (p : IJK) → Within 100000000 p → 100000000 ≤ m → Within m p
+wider m p w h =
+    let i = w.i in
+    let j = w.j in
+    let k = w.k in
+    record { i = omega arith; j = omega arith; k = omega arith }
 
 -- a cell that the check refused
 pub cell_refused : (n : ℕ) (a : Result ℕ Refusal) (x : Refusal) → a ≡ Err x → told a ≡ check_of n → check_of n ≡ refused (number_of (told a))

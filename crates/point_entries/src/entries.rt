@@ -35,9 +35,9 @@ pub fn normalise(p: IJK) -> Result<IJK, Refusal>
 pub fn neighbour(p: IJK, direction: u32) -> Result<IJK, Refusal>
     ensures { told result ≡ neighbour_of p direction }
 {
-    let d = head(direction)?;
-    let at = locate(p)?;
-    Ok(images::neighbor(at, d))
+    let heading = head(direction)?;
+    let place = locate(p)?;
+    Ok(images::neighbor(place, heading))
 }
 
 pub fn same_point(p: IJK, q: IJK) -> Result<bool, Refusal>
@@ -66,7 +66,11 @@ pub fn to_ij(p: IJK) -> Result<IJ, Refusal>
 pub fn from_ij(p: IJ) -> Result<IJK, Refusal>
     ensures { told result ≡ from_ij_of p }
 {
-    locate(IJK { i: p.i, j: p.j, k: 0 })?;
+    locate(IJK {
+        i: p.i,
+        j: p.j,
+        k: 0,
+    })?;
     Ok(ijk::of_ij(p.i, p.j))
 }
 
