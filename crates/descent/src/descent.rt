@@ -8,6 +8,7 @@ use crate::count_down;
 use index::inside::ONE_RESOLUTION;
 use index::{Cell, Resolution};
 
+// Contracts read the fields, code calls the methods. These lend: the borrow checker takes a struct with such fields as moved, not copied.
 #[derive(Clone, Copy, Debug, PartialEq, Eq, Hash)]
 pub struct Descent {
     pub cell: Cell,
@@ -24,24 +25,38 @@ impl Descent {
         Descent { cell, target }
     }
 
+    pub fn cell(&self) -> Cell
+        ensures { result ≡ self.now.cell }
+    {
+        self.cell
+    }
+
+    pub fn target(&self) -> Resolution
+        ensures { result ≡ self.now.target }
+    {
+        self.target
+    }
+
     // The resolutions between the two.
-    pub fn steps(self) -> u64
-        ensures value { result ≡ self.target - res_of self.cell }
+    pub fn steps(&self) -> u64
+        ensures value { result ≡ self.now.target - res_of self.now.cell }
         ensures bound { result ≤ 15 }
     {
         self.target.number() - self.cell.resolution().number()
     }
 
     // How many descendants the cell has.
-    pub fn count(self) -> u64
-        ensures { result ≡ count_of self.cell self.target }
+    pub fn count(&self) -> u64
+        ensures { result ≡ count_of self.now.cell self.now.target }
     {
         count_down(self.cell.is_pentagon(), self.steps())
     }
 
     // The first child: 0 in the places between the resolutions.
-    pub fn first(self) -> u64
-        ensures { result ≡ child_at self.cell self.target 0 }
+    pub fn first(&self) -> u64
+        ensures value { result ≡ child_at self.now.cell self.now.target 0 }
+        ensures valid { Valid self.now.cell }
+        ensures bound { self.now.target ≤ 15 }
     {
         let n = self.cell.number();
         let unit = self.target.place();

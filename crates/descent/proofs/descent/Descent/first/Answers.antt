@@ -5,15 +5,15 @@ use Rattle.descent.proofs.descent.Descent.first.Goals as goal
 use Rattle.descent.proofs.descent.Descent.first.Goals.{After-place-span}
 
 -- what the numbers of the body come to
-steps : (c : After-place-span) → Opened c.args.self.cell c.args.self.target c.resolution.result c.place-unit.result c.place-span.result
+steps : (c : After-place-span) → Opened c.args.self.now.cell c.args.self.now.target c.resolution.result c.place-unit.result c.place-span.result
 steps c =
-    opened _ _ (omega arith) c.number-n.ensures.valid c.args.self.finer c.place-unit.ensures.bound _ _ _ c.resolution.ensures c.place-unit.ensures.value c.place-span.ensures.value
+    opened _ _ (omega arith) c.number-n.ensures.valid c.args.self.now.finer c.place-unit.ensures.bound _ _ _ c.resolution.ensures c.place-unit.ensures.value c.place-span.ensures.value
 
 pub overflow_sub-cleared : goal.overflow_sub-cleared
-overflow_sub-cleared c = (steps (goal.at.overflow_sub-cleared c).After-place-span).order
+overflow_sub-cleared c = (steps c).order
 
 pub overflow_sub-cleared-2 : goal.overflow_sub-cleared-2
-overflow_sub-cleared-2 c = rw c.number-n.ensures.value (steps (goal.at.overflow_sub-cleared-2 c).After-place-span).less
+overflow_sub-cleared-2 c = rw c.number-n.ensures.value (steps c).less
 
-pub returns : goal.returns
-returns c = rw (c.number-n.ensures.value, c.steps.ensures.value, ← c.resolution.ensures) (steps (goal.at.returns c).After-place-span).first
+pub returns-clause-value : goal.returns-clause-value
+returns-clause-value c = rw (c.number-n.ensures.value, c.steps.ensures.value, ← c.resolution.ensures) (steps (goal.at.returns-clause-value c).After-place-span).first
