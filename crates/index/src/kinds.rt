@@ -108,7 +108,7 @@ impl Digit {
         Digit(d)
     }
 
-    pub(crate) fn number(self) -> u64
+    pub fn number(self) -> u64
         ensures value { result ≡ self }
         ensures bound { self ≤ 6 }
     {
