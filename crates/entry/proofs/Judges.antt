@@ -1,5 +1,7 @@
 -- What an entry learns of a number or a point that was judged, and how its own rules go on. Assumes nothing.
-use Rattle.std.proofs.Common.{◌≡◌, ℕ, Bool, true, not, List, [], ◌∷◌, ◌++◌, ⊎_elim, sym, ap, ◌∙◌, subst, Result, Ok, Err}
+use Rattle.std.proofs.Common.{◌≡◌, ℕ, ◌≤◌, Bool, true, not, List, [], ◌∷◌, ◌++◌, ⊎_elim, sym, ap, ◌∙◌, subst, arith, Result, Err}
+use Rattle.std.specs.Result.{IsErrAnd}
+use Rattle.std.proofs.lemmas.Result.{err_from_is_err_and}
 use borrow.Author.Tests.{not-false}
 use lib.Dec.{T}
 use Rattle.index.specs.Refusals.{Rule, ◌when◌, answered, refused, number_of, judged, Clear}
@@ -12,20 +14,21 @@ use Rattle.plane.specs.declared.ijk.IJK.{IJK}
 use Rattle.plane.proofs.Bounds.{in_range_within}
 use Rattle.entry.specs.Rules.{range_rule}
 
-module _ {A : Type 0} (rules : List Rule) (a : A) (r : Result A Refusal) where
-  -- what passes is what was handed in
-  pub passed : (x : A) → r ≡ Ok x → told r ≡ judged rules a → (x ≡ a) × Clear rules
-  passed x p q =
-      let e : judged rules a ≡ answered x = sym q ∙ ap told p in
-      (sym (answered_same rules a x e), answered_clear rules a x e)
+-- what a judge answers by rules: what passes is what was handed in
+module _ {A : Type 0} (rules : List Rule) (a x : A) (e : answered x ≡ judged rules a) where
+  pub passed : (x ≡ a) × Clear rules
+  passed = (sym (answered_same rules a x (sym e)), answered_clear rules a x (sym e))
 
-  -- an entry whose rules begin with these, and one that has no others
-  module _ {B : Type 0} (more : List Rule) (b : B) where
-    pub past_judge : (x : A) → r ≡ Ok x → told r ≡ judged rules a → judged (rules ++ more) b ≡ judged more b
-    past_judge x p q = cleared rules more b (passed x p q).1
+  -- an entry whose rules begin with these goes on with the others
+  pub past_judge : {B : Type 0} (more : List Rule) (b : B) → judged (rules ++ more) b ≡ judged more b
+  past_judge more b = cleared rules more b passed.1
 
-    pub hit_judge : (x : Refusal) → r ≡ Err x → told r ≡ judged rules a → judged (rules ++ more) b ≡ refused (number x)
-    hit_judge x p q = early rules more a b (number x) (sym q ∙ ap told p)
+-- what a judge refuses the entry refuses, at the exit of a `?`
+pub hit_judge : {A B : Type 0} (rules more : List Rule) (a : A) (b : B) (x : Refusal) (r : Result B Refusal) →
+    refused (number x) ≡ judged rules a → IsErrAnd r (λ y. y ≡ x) → told r ≡ judged (rules ++ more) b
+hit_judge rules more a b x r e f =
+    let p = err_from_is_err_and r f in
+    ap told p.1 ∙ ap (λ (y : Refusal). refused (number y)) p.2 ∙ sym (early rules more a b (number x) (sym e))
 
 module _ {A : Type 0} (k : ℕ) (t : Bool) (a : A) (r : Result A Refusal) where
   -- what one rule refuses has its number, and its test holds
@@ -38,10 +41,18 @@ module _ {A : Type 0} (k : ℕ) (t : Bool) (a : A) (r : Result A Refusal) where
 pub outside_is : (t : IJK) (r : Result IJK Refusal) (x : Refusal) → r ≡ Err x → told r ≡ judged (range_rule t ∷ []) t → not (point_in_range t) ≡ true
 outside_is t r x p q = nowhere_is 14 (not (point_in_range t)) t r x p q
 
-pub within : (t : IJK) (r : Result IJK Refusal) (p : IJK) → r ≡ Ok p → told r ≡ judged (range_rule t ∷ []) t → Within 100000000 p
-within t r p e q =
-    let w = passed (range_rule t ∷ []) t r p e q in
+pub within : (t p : IJK) → answered p ≡ judged (range_rule t ∷ []) t → Within 100000000 p
+within t p e =
+    let w = passed (range_rule t ∷ []) t p e in
     subst (Within 100000000) (sym w.0) (in_range_within t (subst T (sym (not-false (point_in_range t) w.1.0)) tt))
+
+-- a size that a larger one allows
+pub wider : (m : ℕ) (p : IJK) → Within 100000000 p → 100000000 ≤ m → Within m p
+wider m p w h =
+    let i = w.i in
+    let j = w.j in
+    let k = w.k in
+    record { i = omega arith; j = omega arith; k = omega arith }
 
 -- a cell that the check refused
 pub cell_refused : (n : ℕ) (a : Result ℕ Refusal) (x : Refusal) → a ≡ Err x → told a ≡ check_of n → check_of n ≡ refused (number_of (told a))

@@ -32,7 +32,7 @@ pub fn onward(number: u32) -> Result<Direction, Refusal>
     head(number)
 }
 
-// A turn count, 0 to 5.
+// Turns in one sense, 0 to 5 of them.
 pub fn rotation(ccw: bool, count: u32) -> Result<Rotation, Refusal>
     ensures { told result ≡ judged (count_rule count ∷ []) (ccw, count) }
 {
