@@ -1,3 +1,1 @@
-pub mod Finers
 pub mod Rooms
-pub mod Unique
