@@ -1,8 +1,10 @@
 -- A listing's answer and the buffer afterwards. Assumes nothing.
-use Rattle.std.proofs.Common.{◌≡◌, ℕ, List, [], ◌∷◌, ◌++◌, length, refl, sym, ap, ◌∙◌, subst, Result}
+use Rattle.std.proofs.Common.{◌≡◌, ℕ, ◌+◌, List, [], ◌∷◌, ◌++◌, length, refl, sym, ap, ◌∙◌, subst, rules, Result, Ok}
 use Rattle.std.specs.Result.{IsErrAnd}
 use Rattle.index.specs.Refusals.{Rule, Outcome, answered, refused, judged}
-use Rattle.index.specs.Told.{number, told}
+use Rattle.index.specs.Layout.{res_of}
+use Rattle.index.specs.Check.{check_of}
+use Rattle.index.specs.Told.{number, told, TakenAsResolution}
 use Rattle.index.specs.declared.refusal.Refusal.{Refusal}
 use Rattle.index.proofs.Rules.{early}
 use Rattle.descent.specs.Descendants.{count_of}
@@ -29,3 +31,8 @@ goes_on raw t c u b l o e p q =
     let z : room_of c u (length b) ≡ list_of raw t (length b) =
     (λ i. room_of (m i) (v i) (length b)) ∙ sym (past_judge (finer_rules raw t) (raw, t) (c, u) e (room_rule raw t (length b) ∷ []) (count_of raw t)) in
     (p ∙ z, q ∙ (λ i. afterwards (z i) (m i) (v i) b))
+
+-- the short listing: the own resolution plus 1 is never below the own one
+pub short : (raw c r t : ℕ) → answered c ≡ check_of raw → r ≡ res_of c → TakenAsResolution (r + 1) (Ok t) → answered (c, t) ≡ finer_of raw (res_of raw + 1)
+unfolding judged
+short raw c r t e q h = search rules

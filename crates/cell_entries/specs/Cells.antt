@@ -1,15 +1,19 @@
 -- Document 01's entries that take a cell: what each answers for any numbers.
-use Rattle.std.specs.Prelude.{not, List, [], ◌∷◌, ◌++◌, ℕ, ◌+◌, ltb, drop, Result, Ok, Err}
+use Rattle.std.specs.Prelude.{not, List, [], ◌∷◌, ◌++◌, ℕ, ◌+◌, ltb, drop, Option, Some, None, Result, Ok, Err}
 use Rattle.index.specs.Layout.{res_of}
 use Rattle.index.specs.Refusals.{Rule, ◌when◌, Outcome, answered, refused, judged}
 use Rattle.index.specs.Check.{cell_rules}
+use Rattle.index.specs.Told.{number}
+use Rattle.index.specs.declared.refusal.Refusal.{Refusal}
 use Rattle.index.specs.Ancestor as ancestor
 use Rattle.descent.specs.Descendants as descendants
 use Rattle.descent.specs.Positions as positions
-use Rattle.entry.specs.Rules.{resolution_rule}
-use Rattle.index.specs.Told.{number}
-use Rattle.index.specs.declared.refusal.Refusal.{Refusal}
 use Rattle.descent.specs.declared.descent.Descent.{Descent}
+use Rattle.children.specs.Cursors.{cursor_after}
+use Rattle.children.specs.declared.children.Cursor.{Cursor}
+use Rattle.children.specs.declared.children.Given.{Given}
+use Rattle.children.specs.declared.children.Given.TheVariants as given
+use Rattle.entry.specs.Rules.{resolution_rule}
 
 abbrev pub valid_of : ℕ → Outcome (Unit {0})
 valid_of raw = judged (cell_rules raw) tt
@@ -31,6 +35,15 @@ count_of raw t = judged (finer_rules raw t) (descendants.count_of raw t)
 -- the position is not below the count
 abbrev pub child_at_of : ℕ → ℕ → ℕ → Outcome ℕ
 child_at_of raw t p = judged (finer_rules raw t ++ ((11 when not (ltb p (descendants.count_of raw t))) ∷ [])) (positions.child_at raw t p)
+
+abbrev pub cursor_of : ℕ → ℕ → Outcome Cursor
+cursor_of raw t = judged (finer_rules raw t) (cursor_after raw t 0)
+
+-- a cursor is refused by 11 alone; it is handed back in each case
+abbrev pub given_told : Given → Outcome (Option ℕ)
+given_told (given.Child y c) = answered (Some y)
+given_told (given.Done c) = answered None
+given_told (given.Refused c) = refused 11
 
 -- the listing's count, in a buffer of so many elements
 abbrev pub room_rule : ℕ → ℕ → ℕ → Rule

@@ -3,8 +3,10 @@ ghost use Rattle.std.specs.Prelude.{◌≡◌, ℕ, ◌+◌, length};
 ghost use Rattle.index.specs.Layout.{res_of};
 ghost use Rattle.index.specs.Check.{check_of};
 ghost use Rattle.index.specs.Told.{told};
-ghost use Rattle.cell_entries.specs.Cells.{valid_of, finer_of, wanted_told, count_of, child_at_of, room_of, list_of, list_short_of, afterwards, position_of, ancestor_of};
+ghost use Rattle.children.specs.Cursors.{next_of};
+ghost use Rattle.cell_entries.specs.Cells.{valid_of, finer_of, wanted_told, count_of, child_at_of, cursor_of, room_of, list_of, list_short_of, afterwards, position_of, ancestor_of};
 
+use children::{Cursor, Given};
 use descent::Descent;
 use index::{Cell, Refusal, Resolution};
 
@@ -43,6 +45,19 @@ pub fn child_at(raw: u64, target: u32, position: u64) -> Result<u64, Refusal>
         return Err(Refusal::Position);
     }
     Ok(ranks::child_at(d, position).number())
+}
+
+pub fn cursor(raw: u64, target: u32) -> Result<Cursor, Refusal>
+    ensures { told result ≡ cursor_of raw target }
+{
+    let d = finer(raw, target)?;
+    Ok(children::fresh(d))
+}
+
+pub fn next(cursor: Cursor) -> Given
+    ensures { result ≡ next_of cursor }
+{
+    cursor.next()
 }
 
 // The descendants, once only the room is left to judge.

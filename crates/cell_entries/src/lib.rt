@@ -3,6 +3,6 @@
 
 mod entries;
 
-pub use entries::{ancestor, check, child_at, count, list, list_short, position};
+pub use entries::{ancestor, check, child_at, count, cursor, list, list_short, next, position};
 // No entry: it takes the checks of two cells, and crosses our own border only.
 pub use entries::below;

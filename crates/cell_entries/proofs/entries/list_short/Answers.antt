@@ -1,12 +1,11 @@
--- By the laws of `Rooms`; the own resolution plus 1 is never below the own one.
-use Rattle.std.proofs.Common.{◌+◌, [], ◌∷◌, length, ltb}
-use Rattle.std.proofs.Common.{rules}
+-- By the laws of `Rooms`.
+use Rattle.std.proofs.Common.{◌+◌, ◌∙◌, [], ◌∷◌, length, ltb}
 use Rattle.index.specs.Layout.{res_of}
-use Rattle.index.specs.Refusals.{◌when◌, judged}
+use Rattle.index.specs.Refusals.{◌when◌, answered}
 use Rattle.index.specs.Check.{cell_rules}
 use Rattle.entry.specs.Rules.{resolution_rule}
 use Rattle.cell_entries.specs.Cells.{room_rule}
-use Rattle.cell_entries.proofs.Rooms.{refuses, goes_on}
+use Rattle.cell_entries.proofs.Rooms.{refuses, goes_on, short}
 use Rattle.cell_entries.proofs.entries.list_short.Goals as goal
 
 pub returns-in_err-cell : goal.returns-in_err-cell
@@ -15,5 +14,6 @@ returns-in_err-cell c =
     refuses (cell_rules n) (resolution_rule (res_of n + 1) ∷ (9 when ltb (res_of n + 1) (res_of n)) ∷ room_rule n (res_of n + 1) (length c.args.buf.now) ∷ []) _ _ _ _ _ _ _ c.in_err-cell.ensures c.from_residual.ensures.1
 
 pub returns : goal.returns
-unfolding judged
-returns c = goes_on c.args.raw (res_of c.args.raw + 1) _ _ _ _ _ (search rules) c.fill.ensures.answer c.fill.ensures.buffer
+returns c =
+    let n = c.new.ensures in
+    goes_on c.args.raw (res_of c.args.raw + 1) _ _ _ _ _ ((λ i. answered (n.cell i, n.target i)) ∙ short c.args.raw _ _ _ c.in_ok-cell.ensures (c.number.ensures.value ∙ c.resolution.ensures) c.in_ok-t.ensures) c.fill.ensures.answer c.fill.ensures.buffer
