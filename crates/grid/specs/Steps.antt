@@ -29,8 +29,11 @@ stays_in b old new = cond (is_pentagonal b && eqb (first new) 1) (out_of_deleted
 unfoldable pub step_of : ℕ → ℕ → Outcome Answer
 step_of n way = cond (eqb (carry_of n way) 0) (stays_in (base_of n) (used n (res_of n)) (walked (used n (res_of n)) way)) (answered (leaves (carry_of n way)))
 
--- the document's number and values of each answer
+-- the document's values and number of each answer
+abbrev pub answer : Stepped → Answer
+answer (Inside c turn) = inside c turn
+answer (Leaves d) = leaves d
+
 abbrev pub step_told : Result Stepped Refusal → Outcome Answer
-step_told (Ok (Inside c turn)) = answered (inside c turn)
-step_told (Ok (Leaves d)) = answered (leaves d)
+step_told (Ok s) = answered (answer s)
 step_told (Err x) = refused (number x)
