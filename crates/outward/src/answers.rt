@@ -2,7 +2,7 @@
 ghost use Rattle.std.specs.Prelude.{◌≡◌, ◌<◌};
 ghost use Rattle.index.specs.Refusals.{number_of};
 ghost use Rattle.index.specs.Told.{told};
-ghost use Rattle.step_entries.specs.Steps.{walked_told, stepped_told};
+ghost use Rattle.step_entries.specs.Told.{walked_told, stepped_told};
 ghost use Rattle.outward.specs.Exports.{number_out, truth_out, point_out, pair_out, walked_out, stepped_out};
 
 use index::Refusal;
