@@ -92,7 +92,8 @@ fn refusal(k: u64) -> Refusal
         4 => Refusal::BaseCell,
         5 => Refusal::Digit,
         6 => Refusal::Unused,
-        _ => Refusal::Deleted,
+        7 => Refusal::Deleted,
+        _ => unreachable!(),
     }
 }
 
