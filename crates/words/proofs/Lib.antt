@@ -1,6 +1,5 @@
 pub mod Numerals
 pub mod Readings
-pub mod Signs
 pub mod Scanning
 pub mod Parting
 pub mod Examples
