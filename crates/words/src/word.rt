@@ -12,7 +12,8 @@ pub struct Digits {
     count: usize,
 }
 
-// The first `hex.count` bytes of `text` are the word's. A `-` in front belongs to `decimal` only.
+// The first `hex.count` bytes of `text` are the word's. A `-` in front belongs to `decimal` only. `Reads` relates a word to
+// its bytes and stands in the contracts: it keeps 16 of them, so that no view or invariant of it could name them.
 #[derive(Clone, Copy)]
 pub struct Word {
     text: [u8; 16],
@@ -22,16 +23,14 @@ pub struct Word {
 }
 
 // Capital letters are no digits.
-fn digit(base: u64, b: u8) -> Option<u64>
-    requires { base ≤ 16 }
-    ensures { SomeIff result (digit_of b < base) (digit_of b) }
+fn digit(b: u8) -> Option<u64>
+    ensures { SomeIff result (digit_of b < 16) (digit_of b) }
 {
-    let d = match b {
-        b'0'..=b'9' => b - b'0',
-        b'a'..=b'f' => b - b'a' + 10,
-        _ => return None,
-    };
-    Some(u64::from(d)).filter(|d| *d < base)
+    match b {
+        b'0'..=b'9' => Some(u64::from(b - b'0')),
+        b'a'..=b'f' => Some(u64::from(b - b'a') + 10),
+        _ => None,
+    }
 }
 
 impl Digits {
@@ -62,7 +61,7 @@ impl Digits {
         ensures { (bs : List ℕ) → held base self.value bs → held base result (bs ++ (b ∷ [])) }
     {
         let value = self.value?;
-        let d = digit(base, b)?;
+        let d = digit(b).filter(|d| *d < base)?;
         value.checked_mul(base)?.checked_add(d)
     }
 
