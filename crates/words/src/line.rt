@@ -5,8 +5,8 @@ ghost use Rattle.words.specs.Reading.{Scans, Whole, Shows, Closes};
 
 use crate::word::Word;
 
-// The first `count` of `words` are read; no request has as many as 9. `Scans` and `Whole` relate a line to its bytes
-// and stand in the contracts: a line does not keep its bytes, so that no view or invariant of it could name them.
+// In fixed memory: the first `count` of `words` are read, and no request has as many as 9. `Scans` and `Whole` relate a line
+// to its bytes and stand in the contracts: a line does not keep its bytes, so that no view or invariant could name them.
 #[derive(Clone, Copy)]
 pub struct Line {
     words: [Word; 9],

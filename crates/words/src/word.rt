@@ -12,8 +12,8 @@ pub struct Digits {
     count: usize,
 }
 
-// The first `hex.count` bytes of `text` are the word's. A `-` in front belongs to `decimal` only. `Reads` relates a word to
-// its bytes and stands in the contracts: it keeps 16 of them, so that no view or invariant of it could name them.
+// In fixed memory: the first `hex.count` bytes of `text` are the word's. A `-` in front belongs to `decimal` only. `Reads`
+// relates a word to its bytes and stands in the contracts: it keeps 16, so that no view or invariant could name them all.
 #[derive(Clone, Copy)]
 pub struct Word {
     text: [u8; 16],
