@@ -9,13 +9,13 @@ use words::Line;
 pub fn serve(mut input: Stdin, output: Stdout) {
     let mut out = Out::new(output);
     let mut line = Line::new();
+    let mut block = [0; 65536];
     for _ in 0..u64::MAX {
-        let mut block = [0; 65536];
         let n = input.read(&mut block).unwrap_or(0);
         if n == 0 {
             break;
         }
-        scan(&mut out, &mut line, &block[..n]);
+        line = scan(&mut out, line, &block[..n]);
         out.flush();
         if !out.is_open() {
             return;
@@ -27,14 +27,16 @@ pub fn serve(mut input: Stdin, output: Stdout) {
     out.flush();
 }
 
-// Answers the lines that the block ends, and reads on in the last.
-fn scan(out: &mut Out, line: &mut Line, block: &[u8]) {
+// Answers the lines that the block ends, and gives the one that it leaves unfinished. By value, since behind a `&mut` a line
+// would be copied at each byte.
+fn scan(out: &mut Out, mut line: Line, block: &[u8]) -> Line {
     for b in block {
         if *b == b'\n' {
             let _ = answer(out, &line.closed());
-            *line = Line::new();
+            line = Line::new();
         } else {
-            *line = line.fed(*b);
+            line = line.fed(*b);
         }
     }
+    line
 }
