@@ -1,3 +1,2 @@
-pub mod Finers
 pub mod Rooms
 pub mod Unique

@@ -1,33 +1,38 @@
--- A listing's answer and the buffer afterwards, once the room is judged. Assumes nothing.
-use mathlib.Core.Path.{◌≡◌, refl, sym, ap, ◌∙◌, subst}
-use mathlib.Core.List.{List, ◌++◌}
-use Prim.Native.Nat.{ℕ, ◌≤◌, ◌<◌}
-use lib.ListN.{length, drop}
-use borrow.Author.Tests.{lt-ltb, le-ltb}
-use Rattle.index.specs.Refusals.{Outcome, answered, refused}
-use Rattle.index.proofs.Rules.{past, hit, none_answered}
+-- A listing's answer and the buffer afterwards. Assumes nothing.
+use Rattle.std.proofs.Common.{◌≡◌, ℕ, ◌+◌, List, [], ◌∷◌, ◌++◌, length, refl, sym, ap, ◌∙◌, subst, rules, Result, Ok}
+use Rattle.std.specs.Result.{IsErrAnd}
+use Rattle.index.specs.Refusals.{Rule, Outcome, answered, refused, judged}
+use Rattle.index.specs.Layout.{res_of}
+use Rattle.index.specs.Check.{check_of}
+use Rattle.index.specs.Told.{number, told, TakenAsResolution}
+use Rattle.index.specs.declared.refusal.Refusal.{Refusal}
+use Rattle.index.proofs.Rules.{early}
 use Rattle.descent.specs.Descendants.{count_of}
-use Rattle.descent.specs.Positions.{listing}
-use Rattle.cell_entries.specs.Cells.{room_of, afterwards}
+use Rattle.entry.proofs.Judges.{passed, past_judge, hit_judge}
+use Rattle.cell_entries.specs.Cells.{finer_rules, finer_of, room_rule, room_of, list_of, afterwards}
 
--- what is refused leaves the buffer as it was
-pub untouched : (o : Outcome ℕ) (k n t : ℕ) (b : List ℕ) → o ≡ refused k → b ≡ afterwards o n t b
-untouched o k n t b e = subst (λ (x : Outcome ℕ). b ≡ afterwards x n t b) (sym e) refl
+-- at the exit of a `?`, what is refused leaves the buffer as it was
+pub refuses : {A : Type 0} (rules more : List Rule) (a : A) (k n t : ℕ) (b : List ℕ) (x : Refusal) (r : Result ℕ Refusal) →
+    refused (number x) ≡ judged rules a → IsErrAnd r (λ y. y ≡ x) →
+    (told r ≡ judged (rules ++ more) k) × (b ≡ afterwards (judged (rules ++ more) k) n t b)
+refuses rules more a k n t b x r e f = (
+  hit_judge rules more a k x r e f,
+  subst (λ (o : Outcome ℕ). b ≡ afterwards o n t b) (sym (early rules more a k (number x) (sym e))) refl,
+)
 
-module _ (n t : ℕ) (b : List ℕ) where
-  pub no_room : (x : ℕ) → length b < count_of n t → x ≡ 10 → (refused x ≡ room_of n t (length b)) × (b ≡ afterwards (room_of n t (length b)) n t b)
-  no_room x h e =
-      let z : room_of n t (length b) ≡ refused 10 = hit _ _ _ _ (lt-ltb _ _ h) in
-      (ap refused e ∙ sym z, untouched _ 10 n t b z)
+-- a cell and a resolution that pass are those that were handed in, and only the room is left to judge
+pub goes_on : (raw t c u : ℕ) (b l : List ℕ) (o : Outcome ℕ) → answered (c, u) ≡ finer_of raw t →
+    o ≡ room_of c u (length b) → l ≡ afterwards (room_of c u (length b)) c u b →
+    (o ≡ list_of raw t (length b)) × (l ≡ afterwards (list_of raw t (length b)) raw t b)
+goes_on raw t c u b l o e p q =
+    let w = (passed (finer_rules raw t) (raw, t) (c, u) e).0 in
+    let m : c ≡ raw = ap (λ (x : ℕ × ℕ). x.0) w in
+    let v : u ≡ t = ap (λ (x : ℕ × ℕ). x.1) w in
+    let z : room_of c u (length b) ≡ list_of raw t (length b) =
+    (λ i. room_of (m i) (v i) (length b)) ∙ sym (past_judge (finer_rules raw t) (raw, t) (c, u) e (room_rule raw t (length b) ∷ []) (count_of raw t)) in
+    (p ∙ z, q ∙ (λ i. afterwards (z i) (m i) (v i) b))
 
-  pub room : (k : ℕ) (l : List ℕ) → k ≡ count_of n t → count_of n t ≤ length b → l ≡ listing n t ++ drop (count_of n t) b → (answered k ≡ room_of n t (length b)) × (l ≡ afterwards (room_of n t (length b)) n t b)
-  room k l e h w =
-      let z : room_of n t (length b) ≡ answered (count_of n t) = past _ _ _ _ (le-ltb _ _ h) ∙ none_answered _ in
-      (ap answered e ∙ sym z, subst (λ (x : Outcome ℕ). l ≡ afterwards x n t b) (sym z) w)
-
--- the same of other numbers that are equal, under rules that are passed
-pub passed : (o : Outcome ℕ) (n m t u : ℕ) (b l : List ℕ) (r : Outcome ℕ) → n ≡ m → t ≡ u → o ≡ room_of m u (length b) →
-    (r ≡ room_of n t (length b)) × (l ≡ afterwards (room_of n t (length b)) n t b) → (r ≡ o) × (l ≡ afterwards o m u b)
-passed o n m t u b l r e f g w =
-    let k : room_of n t (length b) ≡ o = rw (e, f) (sym g) in
-    (w.0 ∙ k, w.1 ∙ (λ i. afterwards (k i) (e i) (f i) b))
+-- the short listing: the own resolution plus 1 is never below the own one
+pub short : (raw c r t : ℕ) → answered c ≡ check_of raw → r ≡ res_of c → TakenAsResolution (r + 1) (Ok t) → answered (c, t) ≡ finer_of raw (res_of raw + 1)
+unfolding judged
+short raw c r t e q h = search rules

@@ -1,15 +1,19 @@
 -- Document 01's entries that take a cell: what each answers for any numbers.
-use Rattle.std.specs.Prelude.{not, List, [], ◌∷◌, ◌++◌, ℕ, ◌+◌, ltb, drop}
+use Rattle.std.specs.Prelude.{not, List, [], ◌∷◌, ◌++◌, ℕ, ◌+◌, ltb, drop, Option, Some, None, Result, Ok, Err}
 use Rattle.index.specs.Layout.{res_of}
 use Rattle.index.specs.Refusals.{Rule, ◌when◌, Outcome, answered, refused, judged}
 use Rattle.index.specs.Check.{cell_rules}
+use Rattle.index.specs.Told.{number}
+use Rattle.index.specs.declared.refusal.Refusal.{Refusal}
 use Rattle.index.specs.Ancestor as ancestor
 use Rattle.descent.specs.Descendants as descendants
 use Rattle.descent.specs.Positions as positions
+use Rattle.descent.specs.declared.descent.Descent.{Descent}
 use Rattle.children.specs.Cursors.{cursor_after}
 use Rattle.children.specs.declared.children.Cursor.{Cursor}
+use Rattle.children.specs.declared.children.Given.{Given}
+use Rattle.children.specs.declared.children.Given.TheVariants as given
 use Rattle.entry.specs.Rules.{resolution_rule}
-use Rattle.cell_entries.specs.declared.finer.Wanted.{Wanted}
 
 abbrev pub valid_of : ℕ → Outcome (Unit {0})
 valid_of raw = judged (cell_rules raw) tt
@@ -21,9 +25,9 @@ finer_rules raw t = cell_rules raw ++ (resolution_rule t ∷ (9 when ltb t (res_
 abbrev pub finer_of : ℕ → ℕ → Outcome (ℕ × ℕ)
 finer_of raw t = judged (finer_rules raw t) (raw, t)
 
-abbrev pub wanted_told : Wanted → Outcome (ℕ × ℕ)
-wanted_told (Wanted.At c t) = answered (c.0, t.0)
-wanted_told (Wanted.Refused x) = refused x.0
+abbrev pub wanted_told : Result Descent Refusal → Outcome (ℕ × ℕ)
+wanted_told (Ok d) = answered (d.cell, d.target)
+wanted_told (Err x) = refused (number x)
 
 abbrev pub count_of : ℕ → ℕ → Outcome ℕ
 count_of raw t = judged (finer_rules raw t) (descendants.count_of raw t)
@@ -34,6 +38,12 @@ child_at_of raw t p = judged (finer_rules raw t ++ ((11 when not (ltb p (descend
 
 abbrev pub cursor_of : ℕ → ℕ → Outcome Cursor
 cursor_of raw t = judged (finer_rules raw t) (cursor_after raw t 0)
+
+-- a cursor is refused by 11 alone; it is handed back in each case
+abbrev pub given_told : Given → Outcome (Option ℕ)
+given_told (given.Child y c) = answered (Some y)
+given_told (given.Done c) = answered None
+given_told (given.Refused c) = refused 11
 
 -- the listing's count, in a buffer of so many elements
 abbrev pub room_rule : ℕ → ℕ → ℕ → Rule

@@ -1,59 +1,57 @@
 // Entries that take a cell: the check, its descendants and its ancestors.
-ghost use Rattle.std.specs.Prelude.{◌≡◌, ◌+◌, ◌≤◌, length};
-ghost use Rattle.index.specs.Layout.{Valid, res_of};
-ghost use Rattle.index.specs.Check.{check_of, told};
+ghost use Rattle.std.specs.Prelude.{◌≡◌, ℕ, ◌+◌, length};
+ghost use Rattle.index.specs.Layout.{res_of};
+ghost use Rattle.index.specs.Check.{check_of};
+ghost use Rattle.index.specs.Told.{told};
 ghost use Rattle.children.specs.Cursors.{next_of};
-ghost use Rattle.entry.specs.Answers.{checked_told, number_told, started_told};
-ghost use Rattle.cell_entries.specs.Cells.{valid_of, count_of, child_at_of, cursor_of, room_of, list_of, list_short_of, afterwards, position_of, ancestor_of};
+ghost use Rattle.cell_entries.specs.Cells.{valid_of, finer_of, wanted_told, count_of, child_at_of, cursor_of, room_of, list_of, list_short_of, afterwards, position_of, ancestor_of};
 
-use crate::finer::{Wanted, finer};
 use children::{Cursor, Given};
-use entry::{Checked, Number, Started};
-use index::inside::{number_of, refusal, resolution, resolution_number, resolution_of};
-use index::{Cell, Resolution};
-use ranks::Found;
+use descent::Descent;
+use index::{Cell, Refusal, Resolution};
 
-pub fn check(raw: u64) -> Checked
-    ensures { checked_told result ≡ valid_of raw }
+pub fn check(raw: u64) -> Result<(), Refusal>
+    ensures { told result ≡ valid_of raw }
 {
-    let a = index::check_flat(raw);
-    let index::Checked::Valid(_cell) = a else {
-        return Checked::Refused(a.refusal());
-    };
-    Checked::Valid
+    index::check_flat(raw)?;
+    Ok(())
 }
 
-pub fn count(raw: u64, target: u32) -> Number
-    ensures { number_told result ≡ count_of raw target }
+// A cell and a resolution that is not coarser. Inlined, since a call of one that entries share has its answer in memory.
+#[inline(always)]
+fn finer(raw: u64, target: u32) -> Result<Descent, Refusal>
+    ensures { wanted_told result ≡ finer_of raw target }
 {
-    let a = finer(raw, index::check(raw), target);
-    let Wanted::At(cell, t) = a else {
-        return Number::Refused(a.refusal());
-    };
-    Number::Is(descent::children_count(cell, t))
-}
-
-pub fn child_at(raw: u64, target: u32, position: u64) -> Number
-    ensures { number_told result ≡ child_at_of raw target position }
-{
-    let a = finer(raw, index::check(raw), target);
-    let Wanted::At(cell, t) = a else {
-        return Number::Refused(a.refusal());
-    };
-    if descent::children_count(cell, t) <= position {
-        return Number::Refused(refusal(11));
+    let cell = index::check(raw)?;
+    let t = Resolution::try_from(target as u64)?;
+    if t < cell.resolution() {
+        return Err(Refusal::Order);
     }
-    Number::Is(number_of(ranks::child_at(cell, t, position)))
+    Ok(Descent::new(cell, t))
 }
 
-pub fn cursor(raw: u64, target: u32) -> Started
-    ensures { started_told result ≡ cursor_of raw target }
+pub fn count(raw: u64, target: u32) -> Result<u64, Refusal>
+    ensures { told result ≡ count_of raw target }
 {
-    let a = finer(raw, index::check(raw), target);
-    let Wanted::At(cell, t) = a else {
-        return Started::Refused(a.refusal());
-    };
-    Started::At(children::fresh(cell, t))
+    let d = finer(raw, target)?;
+    Ok(d.count())
+}
+
+pub fn child_at(raw: u64, target: u32, position: u64) -> Result<u64, Refusal>
+    ensures { told result ≡ child_at_of raw target position }
+{
+    let d = finer(raw, target)?;
+    if d.count() <= position {
+        return Err(Refusal::Position);
+    }
+    Ok(ranks::child_at(d, position).number())
+}
+
+pub fn cursor(raw: u64, target: u32) -> Result<Cursor, Refusal>
+    ensures { told result ≡ cursor_of raw target }
+{
+    let d = finer(raw, target)?;
+    Ok(children::fresh(d))
 }
 
 pub fn next(cursor: Cursor) -> Given
@@ -62,88 +60,57 @@ pub fn next(cursor: Cursor) -> Given
     cursor.next()
 }
 
-// The descendants of a cell, once only the room is left to judge.
-#[tactic(auto, using(crate::proofs::Rooms::no_room, crate::proofs::Rooms::room))]
-fn fill(cell: Cell, t: Resolution, buf: &mut [u64]) -> Number
-    requires { Valid cell.0 × (res_of cell.0 ≤ t.0) × (t.0 ≤ 15) }
-    ensures { (number_told result ≡ room_of cell.0 t.0 (length buf.old)) × (buf.new ≡ afterwards (room_of cell.0 t.0 (length buf.old)) cell.0 t.0 buf.old) }
+// The descendants, once only the room is left to judge.
+fn fill(d: Descent, buf: &mut [u64]) -> Result<u64, Refusal>
+    ensures answer { told result ≡ room_of d.cell d.target (length buf.old) }
+    ensures buffer { buf.new ≡ afterwards (room_of d.cell d.target (length buf.old)) d.cell d.target buf.old }
 {
-    let n = descent::children_count(cell, t);
+    let n = d.count();
     if (buf.len() as u64) < n {
-        return Number::Refused(refusal(10));
+        return Err(Refusal::NoRoom);
     }
-    listing::list(cell, t, buf);
-    Number::Is(n)
+    listing::list(d, buf);
+    Ok(n)
 }
 
-pub fn list(raw: u64, target: u32, buf: &mut [u64]) -> Number
-    ensures { (number_told result ≡ list_of raw target (length buf.old)) × (buf.new ≡ afterwards (list_of raw target (length buf.old)) raw target buf.old) }
+pub fn list(raw: u64, target: u32, buf: &mut [u64]) -> Result<u64, Refusal>
+    ensures { (told result ≡ list_of raw target (length buf.old)) × (buf.new ≡ afterwards (list_of raw target (length buf.old)) raw target buf.old) }
 {
-    let a = finer(raw, index::check(raw), target);
-    let Wanted::At(cell, t) = a else {
-        return Number::Refused(a.refusal());
-    };
-    fill(cell, t, buf)
+    let d = finer(raw, target)?;
+    fill(d, buf)
 }
 
-pub fn list_short(raw: u64, buf: &mut [u64]) -> Number
-    ensures { (number_told result ≡ list_short_of raw (length buf.old)) × (buf.new ≡ afterwards (list_short_of raw (length buf.old)) raw (res_of raw + 1) buf.old) }
+pub fn list_short(raw: u64, buf: &mut [u64]) -> Result<u64, Refusal>
+    ensures { (told result ≡ list_short_of raw (length buf.old)) × (buf.new ≡ afterwards (list_short_of raw (length buf.old)) raw (res_of raw + 1) buf.old) }
 {
-    let a = index::check(raw);
-    let index::Checked::Valid(cell) = a else {
-        return Number::Refused(a.refusal());
-    };
-    let target = resolution_number(resolution_of(cell)) + 1;
-    if 15 < target {
-        return Number::Refused(refusal(8));
+    let cell = index::check(raw)?;
+    let t = Resolution::try_from(cell.resolution().number() + 1)?;
+    fill(Descent::new(cell, t), buf)
+}
+
+// The position of two cells by their checks, so that a block checks its first cell once.
+#[inline(always)]
+pub fn below(a: Result<Cell, Refusal>, b: Result<Cell, Refusal>) -> Result<u64, Refusal>
+    ensures { (n y : ℕ) → told a ≡ check_of n → told b ≡ check_of y → told result ≡ position_of n y }
+{
+    ranks::position(a?, b?)
+}
+
+pub fn position(first: u64, second: u64) -> Result<u64, Refusal>
+    ensures { told result ≡ position_of first second }
+{
+    below(index::check(first), index::check(second))
+}
+
+// Inlined in the entry over a block too.
+#[inline(always)]
+pub fn ancestor(raw: u64, coarser: u32) -> Result<u64, Refusal>
+    ensures { told result ≡ ancestor_of raw coarser }
+{
+    let cell = index::check(raw)?;
+    let r = Resolution::try_from(coarser as u64)?;
+    if cell.resolution() < r {
+        return Err(Refusal::Order);
     }
-    fill(cell, resolution(target), buf)
-}
-
-// The position of two cells whose checks are handed in.
-pub fn below(first: u64, a: index::Checked, second: u64, b: index::Checked) -> Number
-    requires { (told a ≡ check_of first) × (told b ≡ check_of second) }
-    ensures { number_told result ≡ position_of first second }
-{
-    let index::Checked::Valid(cell) = a else {
-        return Number::Refused(a.refusal());
-    };
-    let index::Checked::Valid(under) = b else {
-        return Number::Refused(b.refusal());
-    };
-    let f = ranks::position(cell, under);
-    let Found::At(p) = f else {
-        return Number::Refused(refusal(12));
-    };
-    Number::Is(p)
-}
-
-pub fn position(first: u64, second: u64) -> Number
-    ensures { number_told result ≡ position_of first second }
-{
-    below(first, index::check(first), second, index::check(second))
-}
-
-// The ancestor of a cell whose check is handed in.
-pub fn cut(raw: u64, a: index::Checked, coarser: u32) -> Number
-    requires { told a ≡ check_of raw }
-    ensures { number_told result ≡ ancestor_of raw coarser }
-{
-    let index::Checked::Valid(cell) = a else {
-        return Number::Refused(a.refusal());
-    };
-    let r = coarser as u64;
-    if 15 < r {
-        return Number::Refused(refusal(8));
-    }
-    if resolution_number(resolution_of(cell)) < r {
-        return Number::Refused(refusal(9));
-    }
-    Number::Is(number_of(index::inside::ancestor(cell, resolution(r))))
-}
-
-pub fn ancestor(raw: u64, coarser: u32) -> Number
-    ensures { number_told result ≡ ancestor_of raw coarser }
-{
-    cut(raw, index::check(raw), coarser)
+    Ok(cell.ancestor(r).number())
 }

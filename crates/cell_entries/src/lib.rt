@@ -1,9 +1,8 @@
 // Entries that take a cell: the check, its descendants and its ancestors.
-#![tactic(auto)]
+#![tactic(auto, unfolding(index::specs::Refusals::judged))]
 
 mod entries;
-mod finer;
 
-pub use entries::ancestor;
-// No entry, nor is `cut`: they take checks, and cross our own border only.
-pub use entries::{below, check, child_at, count, cursor, cut, list, list_short, next, position};
+pub use entries::{ancestor, check, child_at, count, cursor, list, list_short, next, position};
+// No entry: it takes the checks of two cells, and crosses our own border only.
+pub use entries::below;

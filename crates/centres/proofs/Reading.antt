@@ -8,13 +8,13 @@ use native.Mathlib.Nat.{div-one}
 use native.Mathlib.Omega.{arith}
 use lib.IntN.{ℤ, pos, nat_abs}
 use lib.ListN.{length}
+use Rattle.std.specs.Prelude.{Some}
 use Rattle.plane.specs.Directions.{triple, vec, unit}
-use Rattle.plane.specs.Points.{normal, Same, pair, ij, plus, minus, down7, up7, direction, direction_of}
+use Rattle.plane.specs.Points.{normal, Same, pair, ij, plus, minus, down7, up7, direction_of}
 use Rattle.plane.specs.Ranges.{Within, Broad}
 use Rattle.plane.specs.Strings.{Digits, odd, centre}
 use Rattle.plane.specs.declared.ijk.IJK.{IJK}
 use Rattle.plane.specs.declared.ijk.IJ.{IJ}
-use Rattle.plane.specs.declared.ijk.Way.TheVariants.{Found}
 use Rattle.plane.proofs.Bounds.{within_minus, within_broad}
 use Rattle.plane.proofs.Pairs.{◌⊕◌, ◌⊖◌, ij_plus, ij_minus, ij_normal, ij_same, same_ij}
 use Rattle.plane.proofs.Normal.{normal_same}
@@ -86,7 +86,7 @@ module _ (o : Bool) (q : IJK) (s : Sized q) where
 pub less_ij : (p u : IJ) → (p ⊕ u) ⊖ p ≡ u
 less_ij p u = ap₂ pair (cancelled p.i u.i) (cancelled p.j u.j)
 
-pub left_digit : (o : Bool) (q : IJK) → (d : ℕ) × (d < 7) × Same q (plus (down7 o (up7 o q)) (unit d)) × (direction_of (minus q (normal (down7 o (up7 o q)))) ≡ Found (direction d))
+pub left_digit : (o : Bool) (q : IJK) → (d : ℕ) × (d < 7) × Same q (plus (down7 o (up7 o q)) (unit d)) × (direction_of (minus q (normal (down7 o (up7 o q)))) ≡ Some d)
 left_digit o q =
     let w = some_way o q in
     let t = down7 o (up7 o q) in

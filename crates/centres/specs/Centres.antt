@@ -1,13 +1,11 @@
 -- Document 01, 'Signed coordinates': the centre of a cell, and reading a centre back.
-use Rattle.std.specs.Prelude.{◌≡◌, List, ℕ, length}
+use Rattle.std.specs.Prelude.{◌≡◌, List, ℕ, Option, Some, None, length}
 use Rattle.plane.specs.Points.{Same}
 use Rattle.plane.specs.Strings.{Digits, centre}
 use Rattle.plane.specs.declared.ijk.IJK.{IJK}
 use Rattle.index.specs.Layout.{res_of}
 use Rattle.index.specs.View.{used, pack}
 use Rattle.index.specs.Refusals.{Outcome, answered, refused}
-use Rattle.centres.specs.declared.centre.Read.{Read}
-use Rattle.centres.specs.declared.centre.Read.TheVariants.{Found, NoString}
 
 -- it takes a cell and reads its used digits only, whatever the base cell
 unfoldable pub centre_of : ℕ → IJK
@@ -26,6 +24,6 @@ Reads r p (answered n) = (ds : List ℕ) × StringOf r p ds × (n ≡ pack 0 ds)
 Reads r p (refused k) = (k ≡ 15) × ((ds : List ℕ) → StringOf r p ds → ⊥)
 
 -- the document's number and value of each answer
-abbrev pub read_told : Read → Outcome ℕ
-read_told (Found c) = answered c.0
-read_told NoString = refused 15
+abbrev pub read_told : Option ℕ → Outcome ℕ
+read_told (Some n) = answered n
+read_told None = refused 15

@@ -5,7 +5,7 @@ use Prim.Native.Nat.{ℕ, suc, ◌+◌, ◌-◌, ◌^◌, ◌≤◌, ◌<◌}
 use native.Mathlib.Numerals.{add-one}
 use native.Mathlib.Omega.{arith}
 use lib.Dec.{eqb, leb}
-use lib.IntN.{ℤ, pos, negsuc}
+use lib.IntN.{ℤ}
 use borrow.Author.Tests.{eqb-true, leb-true, eq-eqb, ne_eqb}
 use mir.Syntax.{w32}
 use mir.Val.{SFits, to_z, of_z}
@@ -19,7 +19,9 @@ use Rattle.descent.specs.Descendants.{Descendant, count_of}
 use Rattle.descent.specs.Positions.{child_at, position_of}
 use Rattle.children.specs.Skips.{skip_of, Inner, Following}
 use Rattle.children.specs.Cursors.{cursor_after, owner_of, accepted, counted, legal, next_of}
-use Rattle.children.specs.Skips.{same_whole}
+use Rattle.plane.specs.Points.{equal}
+use Rattle.plane.proofs.Whole.{equal_eq}
+use Rattle.std.proofs.lemmas.Float.{T_from_true}
 use Rattle.children.specs.declared.children.Cursor.{Cursor}
 use Rattle.children.specs.declared.children.Given.TheVariants.{Child, Done, Refused}
 use Rattle.descent.proofs.Start.{child_res}
@@ -50,12 +52,6 @@ accepted_valid n e = go (check_of n) refl e
     go (answered m) q e = clear_valid n (answered_clear (cell_rules n) n m q)
     go (refused k) q e = absurd (false≢true e)
 
-same_z : (a b : ℤ) → same_whole a b ≡ true → a ≡ b
-same_z (pos a) (pos b) e = ap pos (eqb-true a b e)
-same_z (pos a) (negsuc b) e = absurd (false≢true e)
-same_z (negsuc a) (pos b) e = absurd (false≢true e)
-same_z (negsuc a) (negsuc b) e = ap negsuc (eqb-true a b e)
-
 count_last : (l p t : ℕ) → cond (eqb l 0) (eqb (p + 1) t) (eqb (p + l) t) ≡ true → l ≡ 0 → p + 1 ≡ t
 count_last l p t e z = eqb-true (p + 1) t (rw (eq-eqb l 0 z) at e)
 
@@ -67,7 +63,7 @@ legal_spot c h e =
     let a = and_parts (accepted (check_of c.number)) _ e in
     let b = and_parts (eqb (res_of c.number) c.target) _ a.1 in
     let d = and_parts (leb c.own c.target) _ b.1 in
-    let g = and_parts (counted (owner_of c) c.number c.left) (same_whole c.skip (skip_of (owner_of c) c.number)) d.1 in
+    let g = and_parts (counted (owner_of c) c.number c.left) (equal c.skip (skip_of (owner_of c) c.number)) d.1 in
     let y : ℕ = c.number in
     let v : Valid y = accepted_valid y a.0 in
     let r : res_of y ≡ c.target = eqb-true (res_of y) c.target b.0 in
@@ -89,7 +85,7 @@ legal_spot c h e =
       high = hi;
       under = q.0;
       here = sym q.1;
-      skip = same_z c.skip (skip_of n y) g.1;
+      skip = equal_eq c.skip (skip_of n y) (T_from_true _ g.1);
       last = count_last c.left (position_of n y) (count_of n c.target) t;
       more = count_more c.left (position_of n y) (count_of n c.target) t;
     }
@@ -107,21 +103,16 @@ unfolding next_of
 child_call c e z = rw (e, ne_eqb c.left 0 z)
 
 module _ (c : Cursor) (n p : ℕ) (s : Spot c n p) where
-  -- the cursor that is done is the same
-  pub done_cursor : c.left ≡ 0 → (z : ℤ) → z ≡ to_z w32 (of_z w32 c.skip) →
-      ◌≡◌ {A = Cursor} (record { own = c.own; target = c.target; number = c.number; skip = z; left = 0 }) c
-  done_cursor e z q = same_cursor _ _ refl refl refl (q ∙ to_z-of_z (subst (SFits w32) (sym s.skip) (skip_fits n c.number))) (sym e)
-
   -- the cursor after the last child
-  pub last_cursor : c.left ≡ 1 → (z : ℤ) → z ≡ to_z w32 (of_z w32 c.skip) →
-      ◌≡◌ {A = Cursor} (record { own = c.own; target = c.target; number = c.number; skip = z; left = 0 }) (cursor_after n c.target (p + 1))
-  last_cursor e z q =
+  pub last_cursor : c.left ≡ 1 →
+      ◌≡◌ {A = Cursor} (record { own = c.own; target = c.target; number = c.number; skip = to_z w32 (of_z w32 c.skip); left = 0 }) (cursor_after n c.target (p + 1))
+  last_cursor e =
       let t : ℕ = c.target in
       let m : p + c.left ≡ count_of n t = s.more (λ z. omega arith) in
       let k : count_of n t - 1 ≡ p = omega arith in
       let y : child_at n t (count_of n t - 1) ≡ c.number = ap (child_at n t) k ∙ sym s.here in
       let f : to_z w32 (of_z w32 c.skip) ≡ c.skip = to_z-of_z (subst (SFits w32) (sym s.skip) (skip_fits n c.number)) in
-      same_cursor _ _ (sym s.own) refl (sym y) (q ∙ f ∙ s.skip ∙ ap (skip_of n) (sym y)) refl
+      same_cursor _ _ (sym s.own) refl (sym y) (f ∙ s.skip ∙ ap (skip_of n) (sym y)) refl
       ∙ sym (cursor_end n t (p + 1) (omega arith))
 
   -- the skip, read back from its bits
@@ -141,15 +132,15 @@ module _ (c : Cursor) (n p : ℕ) (s : Spot c n p) where
         )
 
     -- the cursor after another one
-    pub more_cursor : (y : ℕ) (k : ℤ) → Following c.number c.own y k → (z : ℤ) → z ≡ to_z w32 (of_z w32 k) →
-        ◌≡◌ {A = Cursor} (record { own = c.own; target = c.target; number = y; skip = z; left = c.left - 1 }) (cursor_after n c.target (p + 1))
-    more_cursor y k a z q =
+    pub more_cursor : (y : ℕ) (k : ℤ) → Following c.number c.own y k →
+        ◌≡◌ {A = Cursor} (record { own = c.own; target = c.target; number = y; skip = to_z w32 (of_z w32 k); left = c.left - 1 }) (cursor_after n c.target (p + 1))
+    more_cursor y k a =
         let t : ℕ = c.target in
         let m = s.more (λ z. omega arith) in
         let b : Following (child_at n t p) (res_of n) y k = subst (λ (x : ℕ). Following x (res_of n) y k) s.here (subst (λ (o : ℕ). Following c.number o y k) (sym s.own) a) in
         let w = moves.following_child n t s.fits s.valid s.low s.high p further y k b in
         let g : to_z w32 (of_z w32 k) ≡ skip_of n (child_at n t (suc p)) = to_z-of_z (subst (SFits w32) (sym w.1) (skip_fits n (child_at n t (suc p)))) ∙ w.1 in
-        same_cursor _ _ (sym s.own) refl w.0 (q ∙ g) (omega arith)
+        same_cursor _ _ (sym s.own) refl w.0 g (omega arith)
         ∙ sym (cursor_at n t (suc p) further) ∙ ap (cursor_after n t) (sym (add-one p))
 
 pub child_given : (c d : Cursor) → legal c ≡ true → (c.left ≡ 0 → ⊥) → d ≡ cursor_after (owner_of c) c.target (position_of (owner_of c) c.number + 1) → Child c.number d ≡ next_of c

@@ -7,20 +7,22 @@ use Prim.Native.Nat.{ℕ, zero, suc, ◌+◌, ◌-◌, ◌*◌, ◌/◌, ◌%◌
 use native.Mathlib.Nat.{eq-or-lt_of_le, eq-zero-or-pos, add-suc}
 use native.Mathlib.Omega.{arith}
 use lib.Dec.{eqb, ltb}
+use Rattle.std.proofs.Math.Bool.{and-false}
 use lib.IntN.{ℤ, pos, negsuc, pred_ℤ}
 use lib.ListN.{length, length-append}
 use borrow.Author.Tests.{lt-ltb, le-ltb, eq-eqb, ne_eqb}
 use Rattle.index.specs.View.{octal, first}
 use Rattle.descent.specs.Descendants.{count}
 use Rattle.descent.specs.Positions.{below}
-use Rattle.children.specs.Skips.{lead, same_whole}
+use Rattle.plane.specs.Points.{equal}
+use Rattle.children.specs.Skips.{lead}
 use Rattle.descent.proofs.Counts.{up}
 use Rattle.descent.proofs.Below.{first_zero, first_far}
 use Rattle.descent.proofs.Strings.{first_append}
 
 -- the digit 1 of resolution r is skipped
 abbrev pub skips_at : ℤ → ℕ → Bool
-skips_at s r = same_whole s (pos r)
+skips_at s r = equal s (pos r)
 
 -- the m lowest digits of x with eight as its base, the finest first
 unfoldable pub octs : ℕ → ℕ → List ℕ
@@ -84,11 +86,7 @@ pub record Stepped (t : Bool) (own : ℕ) (ds es : List ℕ) : Type 0 where
   pub skip : fallen (mark t own ds) own ds ≡ mark t own es
 
 off : (d : ℕ) (s : ℤ) (r : ℕ) → skips_at s r ≡ false → eqb d 0 && skips_at s r ≡ false
-off d s r e = rw e (either (eqb d 0))
-  where
-    either : (b : Bool) → b && false ≡ false
-    either true = refl
-    either false = refl
+off d s r e = rw e (and-false (eqb d 0))
 
 -- no skip here and a digit below 6
 low : (s : ℤ) (own d : ℕ) (ds : List ℕ) → skips_at s (own + suc (length ds)) ≡ false → d < 6 → (carried s own (d ∷ ds) ≡ suc d ∷ ds) × (fallen s own (d ∷ ds) ≡ s)

@@ -1,96 +1,101 @@
 -- The judging of a cursor, in the words of its calls. Assumes nothing.
-use mathlib.Core.Path.{◌≡◌, sym, ap, ◌∙◌, subst}
+use mathlib.Core.Path.{◌≡◌, refl, sym, ap, ◌∙◌}
 use mathlib.Core.Bool.{Bool, true, false, cond}
-use Prim.Native.Nat.{ℕ, ◌+◌, ◌-◌, ◌^◌, ◌≤◌, ◌<◌}
+use Prim.Native.Nat.{ℕ, zero, suc, ◌+◌, ◌-◌, ◌^◌, ◌≤◌, ◌<◌, max}
 use native.Mathlib.Omega.{arith}
 use lib.Dec.{eqb}
+use Rattle.std.proofs.Math.Dec.{eqb-suc-zero}
 use lib.IntN.{ℤ, pos, negsuc}
 use borrow.Author.Tests.{eq-eqb, ne_eqb, le-leb, lt-leb}
 use mir.Syntax.{w32}
-use mir.Val.{SFits, to_z, of_z}
-use mir.Facts.{to_z-of_z}
+use mir.Val.{SFits, of_z}
 use Rattle.index.specs.Layout.{res_of, Valid}
 use Rattle.index.specs.View.{used}
 use Rattle.index.specs.Ancestor.{ancestor_of}
-use Rattle.index.specs.Refusals.{refused}
 use Rattle.index.specs.Check.{check_of}
-use Rattle.index.proofs.Runs.{length_used}
 use Rattle.index.proofs.Validity.{valid_accepted}
 use Rattle.descent.specs.Descendants.{pentagon, count, count_of}
 use Rattle.descent.specs.Positions.{rank, seg, position_of}
 use Rattle.children.specs.Skips.{lead, skip_of}
-use Rattle.children.specs.Cursors.{accepted, counted, placed, legal}
-use Rattle.children.specs.Skips.{same_whole}
+use Rattle.children.specs.Cursors.{owner_of, accepted, counted, placed, legal}
+use Rattle.plane.proofs.Bounds.{equal_bits}
+use Rattle.plane.specs.Points.{equal}
 use Rattle.children.specs.declared.children.Cursor.{Cursor}
-use Rattle.descent.proofs.Start.{pos_fits}
-use Rattle.descent.proofs.Ancestors.{own_is, owner_fits, owner_valid, owner_low, among_children}
-use Rattle.children.proofs.Carry.{lead_le}
+use Rattle.descent.proofs.Ancestors.{own_is, among_children}
 use Rattle.children.proofs.Moves.{skip_fits}
 
--- a cell y and its ancestor at `own`
-module _ (y own : ℕ) (h64 : y < 2 ^ 64) (v : Valid y) (l : own ≤ res_of y) where
-  abbrev n : ℕ
-  n = ancestor_of y own
+counts : (l p t m : ℕ) → p < t → m ≡ max l 1 → t - p ≡ m → cond (eqb l 0) (eqb (p + 1) t) (eqb (p + l) t) ≡ true
+counts zero p t m h e q = eq-eqb (p + 1) t (omega arith)
+counts (suc l) p t m h e q = rw (eqb-suc-zero l) (eq-eqb (p + suc l) t (omega arith))
 
-  position_fits : position_of n y < 2 ^ 62
-  position_fits =
-      pos_fits n (res_of y) (owner_fits y own h64 v l) (owner_valid y own h64 v l) (owner_low y own h64 v l) (omega arith) (position_of n y) (among_children y own h64 v l).0
+uncounted : (l p t m : ℕ) → m ≡ max l 1 → (t - p ≡ m → ⊥) → cond (eqb l 0) (eqb (p + 1) t) (eqb (p + l) t) ≡ false
+uncounted zero p t m e q = ne_eqb (p + 1) t (λ g. q (omega arith))
+uncounted (suc l) p t m e q = rw (eqb-suc-zero l) (ne_eqb (p + suc l) t (λ g. q (omega arith)))
 
-  -- what `is_placed` reads
-  module _ (number target target' res a total p : ℕ) (f : Bool) (en : number ≡ y) (et : target ≡ target') (et' : target' ≡ res_of y) (er : res ≡ own) (ea : a ≡ ancestor_of y res)
-      (ef : f ≡ pentagon a) (ec : total ≡ count f (target - own)) (ep : p ≡ rank f (seg number own (target - own))) where
-    a_is : a ≡ n
-    a_is = ea ∙ ap (ancestor_of y) er
+-- a cursor by the total and the position p of its number, which has the resolution `fine`; f says whether its owner is a pentagon
+pub record Judged (c : Cursor) (y fine total p : ℕ) (f : Bool) : Type 0 where
+  pub under : p < total
+  pub not_counted : (m : ℕ) → m ≡ max c.left 1 → (total - p ≡ m → ⊥) → eqb (total - p) m ≡ legal c
+  pub all_counted : (m : ℕ) → m ≡ max c.left 1 → total - p ≡ m → (z : ℕ) (k : ℤ) → SFits w32 c.skip → z ≡ lead (used y fine) → k ≡ cond f (pos z) (negsuc 0) → eqb (of_z w32 c.skip) (of_z w32 k) ≡ legal c
 
-    f_is : f ≡ pentagon n
-    f_is = ef ∙ ap pentagon a_is
+-- what `is_legal` reads
+module _ (c : Cursor) (y target fine : ℕ) (h64 : c.number < 2 ^ 64) (v : Valid c.number) (ey : y ≡ c.number) (et : target ≡ fine) (ef : fine ≡ res_of y) where
+  yes_cell : accepted (check_of c.number) ≡ true
+  yes_cell = rw (valid_accepted c.number v)
 
-    m_is : target - own ≡ res_of y - res_of n
-    m_is = omega (arith, own_is y own h64 v l)
+  target_is : target ≡ res_of c.number
+  target_is = et ∙ ef ∙ ap res_of ey
 
-    total_is : total ≡ count_of n (res_of y)
-    total_is = ec ∙ rw (f_is, m_is)
+  pub other_target : (target ≡ c.target → ⊥) → false ≡ legal c
+  other_target h = rw (yes_cell, ne_eqb (res_of c.number) c.target (λ e. h (target_is ∙ e)))
 
-    p_is : p ≡ position_of n y
-    p_is = ep ∙ rw (f_is, m_is, en, own_is y own h64 v l)
+  module _ (h : target ≡ c.target) where
+    same_target : eqb (res_of c.number) c.target ≡ true
+    same_target = eq-eqb (res_of c.number) c.target (sym target_is ∙ h)
 
-    pub p_fits : p < 2 ^ 62
-    p_fits = omega (arith, p_is, position_fits)
+    pub too_coarse : target < c.own → false ≡ legal c
+    too_coarse g = rw (yes_cell, same_target, lt-leb c.own c.target (omega arith))
 
-    module _ (left : ℕ) (skip : ℤ) (t : Bool) (e : t ≡ cond (eqb left 0) (eqb (p + 1) total) (eqb (p + left) total)) where
-      t_is : t ≡ counted n y left
-      t_is = e ∙ rw (p_is, total_is)
+    module _ (l : c.own ≤ target) (coarse a total p : ℕ) (f : Bool) (ec : coarse ≡ c.own) (ea : a ≡ ancestor_of y coarse) (ep : f ≡ pentagon a)
+        (eo : total ≡ count f (target - c.own)) (er : p ≡ rank f (seg y coarse (res_of y - coarse))) where
+      abbrev n : ℕ
+      n = owner_of c
 
-      pub not_counted : t ≡ false → false ≡ placed n y left skip
-      not_counted g = rw (sym t_is ∙ g)
+      low : c.own ≤ res_of c.number
+      low = rw (← target_is) l
 
-      pub all_counted : t ≡ true → (z : ℕ) (k : ℤ) (r : Bool) → SFits w32 skip → z ≡ lead (used number target) → k ≡ cond f (pos z) (negsuc 0) →
-          r ≡ same_whole (to_z w32 (of_z w32 skip)) (to_z w32 (of_z w32 k)) → r ≡ placed n y left skip
-      all_counted g z k r fs ez ek er =
-          let q : k ≡ skip_of n y = ek ∙ rw (f_is, ez, en, et, et') in
-          rw (sym t_is ∙ g)
-          (er ∙ ap (λ (i : ℤ). same_whole i (to_z w32 (of_z w32 k))) (to_z-of_z fs) ∙ ap (same_whole skip) (to_z-of_z (subst (SFits w32) (sym q) (skip_fits n y)) ∙ q))
+      f_is : f ≡ pentagon n
+      f_is = ep ∙ ap pentagon (ea ∙ rw (ey, ec) refl)
 
-pub lead_small : (n k : ℕ) → k ≤ 15 → lead (used n k) ≤ 15
-lead_small n k h = omega (arith, lead_le (used n k), length_used n k)
+      own_is' : res_of n ≡ c.own
+      own_is' = own_is c.number c.own h64 v low
 
-module _ (c : Cursor) where
-  pub no_cell : (k : ℕ) → check_of c.number ≡ refused k → false ≡ legal c
-  no_cell k e = rw e
+      total_is : total ≡ count_of n (res_of c.number)
+      total_is = eo ∙ rw (f_is, target_is, own_is') refl
 
-  module _ (v : Valid c.number) where
-    yes_cell : accepted (check_of c.number) ≡ true
-    yes_cell = rw (valid_accepted c.number v)
+      p_is : p ≡ position_of n c.number
+      p_is = er ∙ rw (f_is, ey, ec, own_is') refl
 
-    pub other_res : (res_of c.number ≡ c.target → ⊥) → false ≡ legal c
-    other_res h = rw (yes_cell, ne_eqb (res_of c.number) c.target h)
+      among : position_of n c.number < count_of n (res_of c.number)
+      among = (among_children c.number c.own h64 v low).0
 
-    module _ (e : res_of c.number ≡ c.target) where
-      same_res : eqb (res_of c.number) c.target ≡ true
-      same_res = eq-eqb (res_of c.number) c.target e
+      under : p < total
+      under = rw (p_is, total_is) among
 
-      pub too_coarse : c.target < c.own → false ≡ legal c
-      too_coarse h = rw (yes_cell, same_res, lt-leb c.own c.target h)
+      placed_legal : (b : Bool) → placed n c.number c.left c.skip ≡ b → legal c ≡ b
+      placed_legal b q = rw (yes_cell, same_target, le-leb c.own c.target (omega arith), q) refl
 
-      pub well_placed : c.own ≤ c.target → (b : Bool) → b ≡ placed (ancestor_of c.number c.own) c.number c.left c.skip → b ≡ legal c
-      well_placed h b q = rw (yes_cell, same_res, le-leb c.own c.target h) q
+      module _ (m : ℕ) (em : m ≡ max c.left 1) where
+        not_counted : (total - p ≡ m → ⊥) → eqb (total - p) m ≡ legal c
+        not_counted g =
+            let u : counted n c.number c.left ≡ false = rw (← p_is, ← total_is) (uncounted c.left p total m em g) in
+            ne_eqb (total - p) m g ∙ sym (placed_legal false (rw u refl))
+
+        all_counted : total - p ≡ m → (z : ℕ) (k : ℤ) → SFits w32 c.skip → z ≡ lead (used y fine) → k ≡ cond f (pos z) (negsuc 0) → eqb (of_z w32 c.skip) (of_z w32 k) ≡ legal c
+        all_counted g z k fs ez ek =
+            let u : counted n c.number c.left ≡ true = rw (← p_is, ← total_is) (counts c.left p total m under em g) in
+            let q : k ≡ skip_of n c.number = ek ∙ rw (f_is, ez, ey, ← et, target_is) refl in
+            rw q (equal_bits c.skip (skip_of n c.number) fs (skip_fits n c.number)) ∙ sym (placed_legal (equal c.skip (skip_of n c.number)) (rw u refl))
+
+      pub judged : Judged c y fine total p f
+      judged = record { under = under; not_counted = not_counted; all_counted = all_counted }

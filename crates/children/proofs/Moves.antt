@@ -67,12 +67,16 @@ module _ (n t : ℕ) (h64 : n < 2 ^ 64) (v : Valid n) (lo : res_of n ≤ t) (hi 
           let z : first (used n (res_of n)) ≡ 0 = first_used n (res_of n) ∙ (and_zero (is_pentagonal (base_of n)) (first_of n (res_of n)) e).1 in
           ap pos (lead_append xs (used n (res_of n)) z ∙ rw (length_used n (res_of n)))
 
-  pub first_skip : skip_of n (child_at n t 0) ≡ cond f (pos t) (negsuc 0)
+  first_skip : skip_of n (child_at n t 0) ≡ cond f (pos t) (negsuc 0)
   first_skip = child_skip 0 (some_child n t h64 v lo hi) ∙ go f
     where
       go : (b : Bool) → mark b (res_of n) (below b m 0) ≡ cond b (pos t) (negsuc 0)
       go false = refl
       go true = ap pos (rw (lead_none (below true m 0) (first_zero m), length_below true m 0) (omega arith))
+
+  -- in the words of `fresh`
+  pub fresh_skip : (g : Bool) (r : ℕ) (k : ℤ) → g ≡ f → r ≡ t → k ≡ cond g (pos r) (negsuc 0) → k ≡ skip_of n (child_at n t 0)
+  fresh_skip g r k eg er ek = rw (ek, eg, er) (sym first_skip)
 
   -- what `advance` asks
   pub asked : (p : ℕ) → p < count_of n t → (res_of n ≤ t) × (t ≤ 15) × (child_at n t p < 2 ^ 60) × Digits (octs (t - res_of n) (child_at n t p / 8 ^ (15 - t)))

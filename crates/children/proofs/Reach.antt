@@ -19,7 +19,7 @@ use Rattle.descent.specs.Descendants.{count_of}
 use Rattle.descent.specs.Positions.{child_at, position_of, listing}
 use Rattle.children.specs.Skips.{skip_of}
 use Rattle.children.specs.Cursors.{cursor_after, owner_of, accepted, legal, next_of, handed, after, Made}
-use Rattle.children.specs.Skips.{same_whole}
+use Rattle.plane.specs.Points.{equal}
 use Rattle.children.specs.declared.children.Cursor.{Cursor}
 use Rattle.children.specs.declared.children.Given.TheVariants.{Child, Done, Refused}
 use Rattle.descent.proofs.Start.{some_child, child_valid, child_res}
@@ -29,7 +29,7 @@ use Rattle.descent.proofs.Ancestors.{ancestor_child}
 use Rattle.children.proofs.Stands.{same_cursor, cursor_at, cursor_end}
 use Rattle.children.proofs.Calls.{Spot, legal_spot, done_call, child_given, refused_call}
 
-same_refl : (z : ℤ) → same_whole z z ≡ true
+same_refl : (z : ℤ) → equal z z ≡ true
 same_refl (pos a) = eq-eqb a a refl
 same_refl (negsuc a) = eq-eqb a a refl
 
@@ -68,7 +68,7 @@ module _ (c : Cursor) (n p : ℕ) (s : Spot c n p) where
       (and_true (le-leb c.own c.target (let l = s.low in omega (arith, s.own)))
       (and_true
       (counts c.left (position_of (owner_of c) c.number) (count_of (owner_of c) (res_of c.number)) (λ z. omega (arith, spot_position, total, s.last z)) (λ z. omega (arith, spot_position, total, s.more z)))
-      (ap (same_whole c.skip) (ap (λ (m : ℕ). skip_of m c.number) spot_owner ∙ sym s.skip) ∙ same_refl c.skip))))
+      (ap (equal c.skip) (ap (λ (m : ℕ). skip_of m c.number) spot_owner ∙ sym s.skip) ∙ same_refl c.skip))))
 
 module _ (n t : ℕ) (h64 : n < 2 ^ 64) (v : Valid n) (lo : res_of n ≤ t) (hi : t ≤ 15) where
   stands : (k : ℕ) → k < count_of n t → Spot (cursor_after n t k) n k

@@ -6,7 +6,8 @@ use Rattle.index.specs.Check.{check_of}
 use Rattle.index.specs.Ancestor.{ancestor_of}
 use Rattle.descent.specs.Descendants.{count_of}
 use Rattle.descent.specs.Positions.{child_at, position_of}
-use Rattle.children.specs.Skips.{skip_of, same_whole}
+use Rattle.plane.specs.Points.{equal}
+use Rattle.children.specs.Skips.{skip_of}
 use Rattle.children.specs.declared.children.Cursor.{Cursor}
 use Rattle.children.specs.declared.children.Given.{Given}
 use Rattle.children.specs.declared.children.Given.TheVariants.{Child, Done, Refused}
@@ -31,7 +32,7 @@ counted n y left = cond (eqb left 0) (eqb (position_of n y + 1) (count_of n (res
 
 -- what is left, and the skip, are those of the child y of n
 abbrev pub placed : ℕ → ℕ → ℕ → ℤ → Bool
-placed n y left skip = counted n y left && same_whole skip (skip_of n y)
+placed n y left skip = counted n y left && equal skip (skip_of n y)
 
 -- a cursor that calls could have made: it stands at a cell of the target resolution, in its place among the descendants of an ancestor
 abbrev pub legal : Cursor → Bool

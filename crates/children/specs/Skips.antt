@@ -1,6 +1,6 @@
 -- Document 01, 'Counts and listings': the Rust skips the K digit by `skip_count`, starting at the target resolution and falling by one
 -- per skip; -1 for other cells. And how `advance` goes from a child to the next.
-use Rattle.std.specs.Prelude.{◌≡◌, Bool, false, cond, List, [], ◌∷◌, ℕ, suc, ◌+◌, ◌≤◌, ◌<◌, eqb, ℤ, pos, negsuc, length}
+use Rattle.std.specs.Prelude.{◌≡◌, cond, List, [], ◌∷◌, ℕ, suc, ◌+◌, ◌≤◌, ◌<◌, eqb, ℤ, pos, negsuc, length}
 use Rattle.index.specs.Layout.{res_of, Valid}
 use Rattle.index.specs.View.{used, first}
 use Rattle.index.specs.Ancestor.{ancestor_of}
@@ -15,12 +15,6 @@ lead (d ∷ ds) = cond (eqb (first (d ∷ ds)) 0) (suc (length ds)) (lead ds)
 -- the skip that goes with the child y of n: the resolution whose digit 1 is skipped next
 abbrev pub skip_of : ℕ → ℕ → ℤ
 skip_of n y = cond (pentagon n) (pos (lead (used y (res_of y)))) (negsuc 0)
-
-abbrev pub same_whole : ℤ → ℤ → Bool
-same_whole (pos a) (pos b) = eqb a b
-same_whole (pos a) (negsuc b) = false
-same_whole (negsuc a) (pos b) = false
-same_whole (negsuc a) (negsuc b) = eqb a b
 
 -- the cell y, with the skip z, is below its ancestor at `own`, and not its last child
 pub record Inner (y : ℕ) (z : ℤ) (own : ℕ) : Type 0 where

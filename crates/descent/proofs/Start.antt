@@ -26,7 +26,7 @@ sums n b own t y x m u s l e p q h =
     let k : y * s ≡ y * (m * u) = ap (λ (z : ℕ). y * z) e in
     omega arith
 
--- the steps of `get_starting_state`
+-- the steps of `Descent::first`
 pub record Opened (n t own unit span : ℕ) : Type 0 where
   pub order : unit ≤ span
   pub less : span - unit ≤ n

@@ -1,11 +1,8 @@
-// How many descendants a cell has.
+// How many descendants lie a number of resolutions down.
 ghost use Rattle.std.specs.Prelude.{◌≡◌, ◌^◌, ◌≤◌};
-ghost use Rattle.index.specs.Layout.{Valid, res_of};
-ghost use Rattle.descent.specs.Descendants.{count, count_of};
+ghost use Rattle.descent.specs.Descendants.{count};
 
-use index::inside::{is_pentagon, resolution_number, resolution_of};
-use index::{Cell, Resolution};
-
+// No array: it takes as many lines, and a proof of its own.
 pub fn sevens(m: u64) -> u64
     requires { m ≤ 15 }
     ensures { result ≡ 7 ^ m }
@@ -39,13 +36,4 @@ pub fn count_down(pentagon: bool, m: u64) -> u64
         return 1 + 5 * (s - 1) / 6;
     }
     s
-}
-
-pub fn children_count(c: Cell, t: Resolution) -> u64
-    requires { Valid c.0 × (res_of c.0 ≤ t.0) × (t.0 ≤ 15) }
-    ensures { result ≡ count_of c.0 t.0 }
-{
-    let own = resolution_number(resolution_of(c));
-    let target = resolution_number(t);
-    count_down(is_pentagon(c), target - own)
 }

@@ -2,7 +2,7 @@
 #![tactic(auto)]
 
 mod count;
-mod first;
+mod descent;
 
-pub use count::{children_count, count_down, sevens};
-pub use first::get_starting_state;
+pub use count::{count_down, sevens};
+pub use descent::Descent;

@@ -1,49 +1,53 @@
 // What entries judge of the numbers handed in, but for a cell.
-ghost use Rattle.std.specs.Prelude.{◌≡◌, cond, ◌||◌, eqb, ltb};
-ghost use Rattle.plane.specs.Ranges.{point_in_range};
+#![tactic(auto, unfolding(index::specs::Refusals::judged))]
 
+ghost use Rattle.std.specs.Prelude.{◌≡◌, [], ◌∷◌};
+ghost use Rattle.index.specs.Refusals.{judged};
+ghost use Rattle.index.specs.Told.{told};
+ghost use Rattle.entry.specs.Rules.{way_rule, onward_rule, count_rule, range_rule};
+
+use index::Refusal;
 use plane::direction::Direction;
+use plane::ijk;
 use plane::ijk::IJK;
-use plane::{direction, ijk};
+use plane::rotation::Rotation;
 
-// 0 to 6, or refusal 13.
-#[derive(Clone, Copy)]
-pub enum Heading {
-    To(Direction),
-    Nowhere,
-}
-
-pub fn head(number: u32) -> Heading
-    ensures { result ≡ cond (ltb 6 number) Heading.Nowhere (Heading.To (record { 0 = number })) }
+// A direction, 0 to 6.
+pub fn head(number: u32) -> Result<Direction, Refusal>
+    ensures { told result ≡ judged (way_rule number ∷ []) number }
 {
     if 6 < number {
-        return Heading::Nowhere;
+        return Err(Refusal::Direction);
     }
-    Heading::To(direction::new_unchecked(number as u8))
+    Ok(Direction::new_unchecked(number as u8))
 }
 
-// 1 to 6, or refusal 13: what the walk and the step take.
-pub fn onward(number: u32) -> Heading
-    ensures { result ≡ cond (eqb number 0 || ltb 6 number) Heading.Nowhere (Heading.To (record { 0 = number })) }
+// 1 to 6: what the walk and the step take.
+pub fn onward(number: u32) -> Result<Direction, Refusal>
+    ensures { told result ≡ judged (onward_rule number ∷ []) number }
 {
     if number == 0 {
-        return Heading::Nowhere;
+        return Err(Refusal::Direction);
     }
     head(number)
 }
 
-// A point within the range, or refusal 14.
-#[derive(Clone, Copy)]
-pub enum Place {
-    Within(IJK),
-    Outside,
+// Turns in one sense, 0 to 5 of them.
+pub fn rotation(ccw: bool, count: u32) -> Result<Rotation, Refusal>
+    ensures { told result ≡ judged (count_rule count ∷ []) (ccw, count) }
+{
+    if 5 < count {
+        return Err(Refusal::Range);
+    }
+    Ok(Rotation::new_unchecked(ccw, count as u8))
 }
 
-pub fn locate(p: IJK) -> Place
-    ensures { result ≡ cond (point_in_range p) (Place.Within p) Place.Outside }
+// A point within the range.
+pub fn locate(p: IJK) -> Result<IJK, Refusal>
+    ensures { told result ≡ judged (range_rule p ∷ []) p }
 {
-    if ijk::point_in_range(p) {
-        return Place::Within(p);
+    if !ijk::point_in_range(p) {
+        return Err(Refusal::Range);
     }
-    Place::Outside
+    Ok(p)
 }

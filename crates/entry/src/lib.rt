@@ -1,8 +1,5 @@
-// What the entries share: their answers, and what they judge of the numbers handed in.
+// What the entries share: what they judge of the numbers handed in, but for a cell.
 #![tactic(auto)]
 
-mod answers;
 // Public only because it crosses our crates' border.
 pub mod judge;
-
-pub use answers::{Checked, Number, Pair, Point, Started, Stepped, Truth, Walked};

@@ -1,12 +1,14 @@
 -- Document 01, 'The step': what a cell and a direction 1 to 6 are answered.
-use Rattle.std.specs.Prelude.{true, false, cond, ◌&&◌, List, map, ℕ, eqb}
+use Rattle.std.specs.Prelude.{true, false, cond, ◌&&◌, List, map, ℕ, Result, Ok, Err, eqb}
 use Rattle.plane.specs.Directions.{turns}
 use Rattle.index.specs.Layout.{base_of, res_of, is_pentagonal}
 use Rattle.index.specs.View.{used, pack, first}
 use Rattle.index.specs.Refusals.{Outcome, answered, refused}
+use Rattle.index.specs.Told.{number}
+use Rattle.index.specs.declared.refusal.Refusal.{Refusal}
 use Rattle.walks.specs.Walks.{walked, carry_of}
 use Rattle.grid.specs.declared.algo.Stepped.{Stepped}
-use Rattle.grid.specs.declared.algo.Stepped.TheVariants.{Inside, Leaves, DeletedWay}
+use Rattle.grid.specs.declared.algo.Stepped.TheVariants.{Inside, Leaves}
 
 pub data Answer : Type 0 where
   inside : ℕ → ℕ → Answer
@@ -27,8 +29,11 @@ stays_in b old new = cond (is_pentagonal b && eqb (first new) 1) (out_of_deleted
 unfoldable pub step_of : ℕ → ℕ → Outcome Answer
 step_of n way = cond (eqb (carry_of n way) 0) (stays_in (base_of n) (used n (res_of n)) (walked (used n (res_of n)) way)) (answered (leaves (carry_of n way)))
 
--- the document's number and values of each answer
-abbrev pub step_told : Stepped → Outcome Answer
-step_told (Inside c turn) = answered (inside c.0 turn)
-step_told (Leaves d) = answered (leaves d.0)
-step_told DeletedWay = refused 17
+-- the document's values and number of each answer
+abbrev pub answer : Stepped → Answer
+answer (Inside c turn) = inside c turn
+answer (Leaves d) = leaves d
+
+abbrev pub step_told : Result Stepped Refusal → Outcome Answer
+step_told (Ok s) = answered (answer s)
+step_told (Err x) = refused (number x)

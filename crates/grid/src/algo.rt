@@ -1,49 +1,49 @@
 // The step (grid/algo.rs).
-ghost use Rattle.std.specs.Prelude.{◌≡◌, ◌<◌, ◌≤◌};
-ghost use Rattle.index.specs.Layout.{Valid};
+ghost use Rattle.std.specs.Prelude.{◌≡◌, ◌&&◌, ◌==◌};
+ghost use Rattle.index.specs.Layout.{res_of, base_of, first_of, is_pentagonal};
 ghost use Rattle.grid.specs.Steps.{step_of, step_told};
 
-use index::{Cell, inside};
-use plane::direction;
+use index::inside::first_axe;
+use index::{Cell, Refusal};
 use plane::direction::Direction;
+use plane::rotation::Rotation;
+use turns::turn_digits;
 use walks::walk;
 
-#[derive(Clone, Copy)]
+#[derive(Clone, Copy, Debug, PartialEq, Eq, Hash)]
 pub enum Stepped {
     // A cell of the same base cell, and the turn number.
     Inside(Cell, u8),
     // The base cell is left in a direction.
     Leaves(Direction),
-    // Refusal 17.
-    DeletedWay,
 }
 
-pub fn step(c: Cell, d: Direction) -> Stepped
-    requires { Valid c.0 × (1 ≤ d.0) × (d.0 < 7) }
-    ensures { step_told result ≡ step_of c.0 d.0 }
+// Whether n lies among the digits that the base cell of c lacks.
+fn is_deleted(c: Cell, n: u64) -> bool
+    ensures { result ≡ (is_pentagonal (base_of c) && first_of n (res_of n) == 1) }
+{
+    c.in_pentagon() && first_axe(n) == 1
+}
+
+pub fn step(c: Cell, d: Direction) -> Result<Stepped, Refusal>
+    ensures { step_told result ≡ step_of c d }
 {
     let w = walk(c, d);
     let n = w.number;
     let carry = w.carry;
-    if direction::value(carry) != 0 {
-        return Stepped::Leaves(carry);
+    if carry.value() != 0 {
+        return Ok(Stepped::Leaves(carry));
     }
-    if !inside::in_pentagon(c) {
-        let free = inside::cell(n);
-        return Stepped::Inside(free, 0);
+    if !is_deleted(c, n) {
+        let kept = Cell::new_unchecked(n);
+        return Ok(Stepped::Inside(kept, 0));
     }
-    if inside::first_direction(n) != 1 {
-        let kept = inside::cell(n);
-        return Stepped::Inside(kept, 0);
-    }
-    let first = inside::first_direction(inside::number_of(c));
+    let first = first_axe(c.number());
     if first == 0 {
-        return Stepped::DeletedWay;
+        return Err(Refusal::DeletedWay);
     }
-    if first == 3 {
-        let ccw = inside::cell(turns::turn_digits(n, true, 1));
-        return Stepped::Inside(ccw, 1);
-    }
-    let cw = inside::cell(turns::turn_digits(n, false, 1));
-    Stepped::Inside(cw, 5)
+    let ccw = first == 3;
+    let turned = Cell::new_unchecked(turn_digits(n, Rotation::new_unchecked(ccw, 1)));
+    let turn = if ccw { 1 } else { 5 };
+    Ok(Stepped::Inside(turned, turn))
 }

@@ -7,12 +7,15 @@ use Prim.Native.Nat.{ℕ, ◌+◌, ◌-◌, ◌^◌, ◌≤◌, ◌<◌}
 use native.Mathlib.Omega.{arith}
 use lib.Dec.{eqb, ltb}
 use lib.ListN.{length, drop, get_or}
+use Rattle.std.proofs.Common.{Result}
 use Rattle.std.proofs.Math.ListN.{get_or-append}
 use Rattle.std.proofs.lemmas.List.{length-append, length-drop, get_or-append-add, get_or-drop}
 use borrow.Author.Tests.{ltb-false}
 use Rattle.index.specs.Layout.{res_of}
 use Rattle.index.specs.Refusals.{◌when◌, Outcome, answered, refused}
 use Rattle.index.specs.Check.{cell_rules}
+use Rattle.index.specs.Told.{told}
+use Rattle.index.specs.declared.refusal.Refusal.{Refusal}
 use Rattle.index.proofs.Rules.{answered_same, answered_clear, clear_parts}
 use Rattle.index.proofs.Some.{both_off}
 use Rattle.index.proofs.Validity.{clear_valid}
@@ -21,8 +24,6 @@ use Rattle.descent.specs.Positions.{listing}
 use Rattle.descent.proofs.Whole.{whole, length_listing}
 use Rattle.walks.specs.Walks.{Moved, walked_of, carry_of}
 use Rattle.walks.proofs.Walks.{walk_moved, walk_only}
-use Rattle.entry.specs.Answers.{number_told}
-use Rattle.entry.specs.declared.answers.Number.{Number}
 use Rattle.entry.specs.Rules.{resolution_rule, onward_rule}
 use Rattle.cell_entries.specs.Cells.{finer_rules, room_rule, list_of, list_short_of, afterwards}
 use Rattle.step_entries.specs.Steps.{onward_rules, walk_of}
@@ -52,9 +53,9 @@ pub record BufferListed (n t k : ℕ) (before after : List ℕ) : Type 0 where
   pub later : (p : ℕ) → k ≤ p → get_or after p 0 ≡ get_or before p 0
 
 -- what it holds after either answer: where the listing is refused every element is what it was
-pub record BufferMeant (n t : ℕ) (r : Number) (before after : List ℕ) : Type 0 where
-  pub answer : (k : ℕ) → number_told r ≡ answered k → BufferListed n t k before after
-  pub refusal : (x : ℕ) → number_told r ≡ refused x → after ≡ before
+pub record BufferMeant (n t : ℕ) (r : Result ℕ Refusal) (before after : List ℕ) : Type 0 where
+  pub answer : (k : ℕ) → told r ≡ answered k → BufferListed n t k before after
+  pub refusal : (x : ℕ) → told r ≡ refused x → after ≡ before
 
 -- what a list leaves of the one that it is written over
 later_at : (l b : List ℕ) (k i : ℕ) → length l ≡ k → k ≤ i → get_or (l ++ drop k b) i 0 ≡ get_or b i 0
@@ -63,16 +64,16 @@ later_at l b k i e h =
     let q : k + (i - k) ≡ i = omega arith in
     ap (λ (j : ℕ). get_or (l ++ drop k b) j 0) p ∙ get_or-append-add l (drop k b) (i - k) 0 ∙ get_or-drop k b (i - k) 0 ∙ ap (λ (j : ℕ). get_or b j 0) q
 
-module _ (n t : ℕ) (r : Number) (before after : List ℕ) (h : n < 2 ^ 64)
-    (promised : (number_told r ≡ list_of n t (length before)) × (after ≡ afterwards (list_of n t (length before)) n t before)) where
+module _ (n t : ℕ) (r : Result ℕ Refusal) (before after : List ℕ) (h : n < 2 ^ 64)
+    (promised : (told r ≡ list_of n t (length before)) × (after ≡ afterwards (list_of n t (length before)) n t before)) where
   -- of any answer and buffer that satisfy the promise of `list`
   pub buffer_listed : BufferMeant n t r before after
   buffer_listed = record { answer = answer; refusal = λ x e. became (refused x) e }
     where
-      became : (o : Outcome ℕ) → number_told r ≡ o → after ≡ afterwards o n t before
+      became : (o : Outcome ℕ) → told r ≡ o → after ≡ afterwards o n t before
       became o e = promised.1 ∙ ap (λ (x : Outcome ℕ). afterwards x n t before) (sym promised.0 ∙ e)
 
-      answer : (k : ℕ) → number_told r ≡ answered k → BufferListed n t k before after
+      answer : (k : ℕ) → told r ≡ answered k → BufferListed n t k before after
       answer k e =
           let l = listed n t (length before) k h (sym promised.0 ∙ e) in
           let m = l.meaning in
@@ -89,8 +90,8 @@ module _ (n t : ℕ) (r : Number) (before after : List ℕ) (h : n < 2 ^ 64)
           }
 
 -- of any answer and buffer that satisfy the promise of `list_short`
-pub buffer_listed_short : (n : ℕ) (r : Number) (before after : List ℕ) → n < 2 ^ 64 →
-    (number_told r ≡ list_short_of n (length before)) × (after ≡ afterwards (list_short_of n (length before)) n (res_of n + 1) before) → BufferMeant n (res_of n + 1) r before after
+pub buffer_listed_short : (n : ℕ) (r : Result ℕ Refusal) (before after : List ℕ) → n < 2 ^ 64 →
+    (told r ≡ list_short_of n (length before)) × (after ≡ afterwards (list_short_of n (length before)) n (res_of n + 1) before) → BufferMeant n (res_of n + 1) r before after
 buffer_listed_short n = buffer_listed n (res_of n + 1)
 
 pub record WalkMeant (n way y carry : ℕ) : Type 0 where

@@ -9,6 +9,7 @@ use native.Mathlib.Omega.{arith}
 use lib.Dec.{eqb, ltb}
 use lib.IntN.{pos}
 use lib.Signed.{le_z}
+use Rattle.std.proofs.Common.{Some, None}
 use borrow.Author.Tests.{ltb-false, le-ltb, eqb-false, not-true, not-false}
 use Rattle.index.specs.Layout.{Valid, res_of}
 use Rattle.index.specs.Refusals.{Rule, ◌when◌, Outcome, answered, refused, judged, Met}
@@ -18,10 +19,9 @@ use Rattle.index.proofs.Rules.{refused_inj, never, refused_met, answered_same, a
 use Rattle.index.proofs.Some.{both_off}
 use Rattle.index.proofs.Validity.{clear_valid, valid_clear}
 use Rattle.plane.specs.Directions.{unit}
-use Rattle.plane.specs.Points.{normal, largest, value, direction, Same, direction_of}
+use Rattle.plane.specs.Points.{normal, largest, value, Same, direction_of}
 use Rattle.plane.specs.Ranges.{point_in_range}
 use Rattle.plane.specs.declared.ijk.IJK.{IJK}
-use Rattle.plane.specs.declared.ijk.Way.TheVariants.{Found, NotUnit}
 use Rattle.plane.proofs.Normal.{normal_same}
 use Rattle.plane.proofs.Units.{unit_normal, apart, not_unit}
 use Rattle.plane.proofs.Centres.{centre_normal}
@@ -36,9 +36,8 @@ use Rattle.centres.specs.Centres.{StringOf, Reads}
 use Rattle.centres.specs.Centres as centres
 use Rattle.grid.specs.Steps as steps
 use Rattle.grid.proofs.Inside.{Pentagon, deleted_way}
-use Rattle.entry.specs.Answers.{given_told}
 use Rattle.entry.specs.Rules.{resolution_rule, way_rule, range_rule, onward_rule}
-use Rattle.cell_entries.specs.Cells.{position_of}
+use Rattle.cell_entries.specs.Cells.{given_told, position_of}
 use Rattle.point_entries.specs.Points.{unit_of, direction_of_point, unit_rule}
 use Rattle.step_entries.specs.Steps.{ReadsBack, Under, onward_rules, after, step_of}
 use Rattle.step_entries.specs.Steps as entries
@@ -102,10 +101,10 @@ given_16 t = (there, back)
     there : direction_of_point t ≡ refused 16 → (point_in_range t ≡ true) × ((d : ℕ) → d < 7 → Same t (unit d) → ⊥)
     there e =
         let a = later 16 (range_rule t ∷ []) (unit_rule t ∷ []) (λ x. omega arith, tt) (refused_met (range_rule t ∷ unit_rule t ∷ []) (value (normal t)) 16 e) in
-        (not-false (point_in_range t) a.0.0, ⊎_elim (λ q. (not_unit t).0 (ap (λ (b : Bool). cond b (Found (direction (value (normal t)))) NotUnit) (not-true (le_z (largest (normal t)) (pos 1)) q.0))) (λ q. absurd q.1) a.1)
+        (not-false (point_in_range t) a.0.0, ⊎_elim (λ q. (not_unit t).0 (ap (λ (b : Bool). cond b (Some (value (normal t))) None) (not-true (le_z (largest (normal t)) (pos 1)) q.0))) (λ q. absurd q.1) a.1)
 
-    far : (b : Bool) → le_z (largest (normal t)) (pos 1) ≡ b → direction_of t ≡ NotUnit → not b ≡ true
-    far true e w = absurd (apart (direction_of t) (value (normal t)) (ap (λ (b : Bool). cond b (Found (direction (value (normal t)))) NotUnit) e) w)
+    far : (b : Bool) → le_z (largest (normal t)) (pos 1) ≡ b → direction_of t ≡ None → not b ≡ true
+    far true e w = absurd (apart (direction_of t) (value (normal t)) (ap (λ (b : Bool). cond b (Some (value (normal t))) None) e) w)
     far false e w = refl
 
     back : (point_in_range t ≡ true) × ((d : ℕ) → d < 7 → Same t (unit d) → ⊥) → direction_of_point t ≡ refused 16

@@ -5,7 +5,6 @@ ghost use Rattle.plane.specs.Points as points;
 ghost use Rattle.plane.specs.Ranges.{Within, Broad};
 ghost use Rattle.plane.specs.Inside.{Weighs, weighed, beside};
 
-use plane::direction;
 use plane::direction::Direction;
 use plane::ijk::{IJK, normalize, of_ij, to_ij};
 use plane::number::{scaled, seventh};
@@ -91,8 +90,8 @@ pub fn up_aperture7(p: IJK, ccw: bool) -> IJK
 
 // The point moved by a direction's unit vector.
 pub fn neighbor(p: IJK, d: Direction) -> IJK
-    requires { (Within 999999999 p) × (d.0 < 7) }
-    ensures { result ≡ points.normal (points.plus p (unit d.0)) }
+    requires { Within 999999999 p }
+    ensures { result ≡ points.normal (points.plus p (unit d)) }
 {
-    weighted(1, p, direction::coordinate(d))
+    weighted(1, p, d.coordinate())
 }

@@ -1,6 +1,6 @@
 -- The ancestor: the digits cut at t, and 7 below. In the words of the calls `own` is the resolution, u the place of the digit t.
 -- Assumes nothing.
-use Rattle.std.proofs.Common.{◌≡◌, ℕ, zero, suc, ◌+◌, ◌-◌, ◌*◌, ◌%◌, ◌^◌, ◌<◌, ◌≤◌, sym, ap, ◌∙◌, subst, ⊎_elim, le_of_suc-le-suc, not-suc-le-zero, eq-or-lt_of_le, div-one, arith, pow-add}
+use Rattle.std.proofs.Common.{◌≡◌, ℕ, zero, suc, ◌+◌, ◌-◌, ◌*◌, ◌%◌, ◌^◌, ◌<◌, ◌≤◌, sym, ap, ap₂, ◌∙◌, subst, ⊎_elim, le_of_suc-le-suc, not-suc-le-zero, eq-or-lt_of_le, div-one, arith, pow-add}
 use native.Mathlib.Nat.{mod-le}
 use lib.Arith.{digits_lt}
 use Rattle.index.specs.Layout.{res_of, base_of, first_of, Valid}
@@ -110,3 +110,9 @@ module _ (n t own u : ℕ) (h64 : n < 2 ^ 64) (v : Valid n) (l : t ≤ res_of n)
 
   pub steps : Steps n t own u
   steps = record { one = u_pos; less = cut_le; fits = cut_fits; above = span_le; total = cut_total }
+
+-- the same where the number is that of a cell c, and k that of its target
+pub cut : (c t own u n k : ℕ) → n < 2 ^ 64 → Valid c → t ≤ res_of c → n ≡ c → own ≡ res_of n → u ≡ 8 ^ (15 - t) → k ≡ t → Steps n k own u × (n - n % u + (u - 1) - (own - k) * 2 ^ 52 ≡ ancestor_of c t)
+cut c t own u n k h v l en eo eu ek =
+    let s : Steps n k own u = steps n k own u h (rw en v) (rw (en, ek) l) eo (rw ek eu) in
+    (s, s.total ∙ ap₂ ancestor_of en ek)

@@ -27,9 +27,13 @@ zero_eq y s x p e =
     (λ (l : 0 < y). let k : 1 * s ≤ y * s = mul-le-mul_right s l in rw (ne_eqb y 0 (omega arith), ne_eqb x (s - 1) (omega arith)))
     (eq-zero-or-pos y)
 
-pub all_zero : (n r : ℕ) → Valid n → r ≡ res_of n → eqb (n % 2 ^ 45) (35184372088831 / 2 ^ (3 * r)) ≡ eqb (first_of n (res_of n)) 0
-all_zero n r v e =
+on_valid : (n r : ℕ) → Valid n → r ≡ res_of n → eqb (n % 2 ^ 45) (35184372088831 / 2 ^ (3 * r)) ≡ eqb (first_of n (res_of n)) 0
+on_valid n r v e =
     let l : res_of n ≤ 15 = omega arith in
     let o = sevens n (res_of n) (15 - res_of n) (omega arith) (λ j g h. v.rest j g (omega arith)) in
     let s : n % 2 ^ 45 ≡ run n 0 (res_of n) * 8 ^ (15 - res_of n) + (8 ^ (15 - res_of n) - 1) = low_split n (res_of n) l ∙ ap (λ (x : ℕ). run n 0 (res_of n) * 8 ^ (15 - res_of n) + x) o in
     rw (e, all_ones (res_of n) l, first_run n (res_of n) l) (zero_eq _ _ _ (eights_pos (15 - res_of n)) s)
+
+-- the same where the number is that of a cell
+pub all_zero : (c n r : ℕ) → n ≡ c → Valid c → r ≡ res_of n → eqb (n % 2 ^ 45) (35184372088831 / 2 ^ (3 * r)) ≡ eqb (first_of c (res_of c)) 0
+all_zero c n r e v er = on_valid n r (rw e v) er ∙ ap (λ (x : ℕ). eqb (first_of x (res_of x)) 0) e

@@ -1,9 +1,7 @@
 -- Document 01, refusals 1 to 7: the check of a raw number, and what its answer says.
 use Rattle.std.specs.Prelude.{ℕ, zero, suc, ◌+◌, ◌-◌, Bool, false, not, ◌&&◌, ◌||◌, List, [], ◌∷◌, ◌==◌, nat_eq, nat_lt}
 use Rattle.index.specs.Layout.{top_bit, mode_of, reserved_of, res_of, base_of, digit, first_of, is_pentagonal}
-use Rattle.index.specs.Refusals.{Rule, ◌when◌, Outcome, answered, refused, judged}
-use Rattle.index.specs.declared.Checked.{Checked}
-use Rattle.index.specs.declared.Checked.TheVariants.{Valid, Refused}
+use Rattle.index.specs.Refusals.{Rule, ◌when◌, Outcome, judged}
 
 -- f holds at one of the places 1 to k
 unfoldable pub some : (ℕ → Bool) → ℕ → Bool
@@ -33,8 +31,3 @@ cell_rules n =
 -- the check of a raw number: the number itself, or the refusal
 abbrev pub check_of : ℕ → Outcome ℕ
 check_of n = judged (cell_rules n) n
-
--- the document's number and value of each answer
-abbrev pub told : Checked → Outcome ℕ
-told (Valid c) = answered c.0
-told (Refused x) = refused x.0

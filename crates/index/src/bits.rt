@@ -3,7 +3,6 @@ ghost use Rattle.std.specs.Prelude.{◌≡◌, ◌≤◌, if◌then◌else◌};
 ghost use Rattle.index.specs.Layout.{top_bit, reserved_of, res_of, base_of, digit, first_of};
 ghost use Rattle.index.specs.Written.{Written};
 
-use crate::inside::place;
 use crate::{Digit, Resolution};
 
 // The 45 bits of the digits, and one more.
@@ -41,9 +40,9 @@ pub(crate) fn get_reserved(n: u64) -> u64
 }
 
 pub(crate) fn get_resolution(n: u64) -> Resolution
-    ensures { result.0 ≡ res_of n }
+    ensures { result ≡ res_of n }
 {
-    Resolution((n >> 52) % 16)
+    Resolution::new_unchecked((n >> 52) % 16)
 }
 
 pub(crate) fn get_base_cell(n: u64) -> u64
@@ -52,38 +51,39 @@ pub(crate) fn get_base_cell(n: u64) -> u64
     (n >> 45) % 128
 }
 
-pub(crate) fn get_direction(n: u64, r: Resolution) -> u64
-    requires { (1 ≤ r.0) × (r.0 ≤ 15) }
-    ensures { result ≡ digit n r.0 }
+// The digit of resolution r of any number.
+pub fn get_direction(n: u64, r: Resolution) -> u64
+    requires { 1 ≤ r }
+    ensures { result ≡ digit n r }
 {
-    (n >> (3 * (15 - r.0))) % 8
+    (n >> (3 * (15 - r.number()))) % 8
 }
 
 // The first used digit that is not 0, or 0. After digits that are all 0 comes a 7 that is not used: the place is capped at the resolution.
-pub(crate) fn first_axe(n: u64) -> u64
+pub fn first_axe(n: u64) -> u64
     ensures { result ≡ first_of n (res_of n) }
 {
     let own = get_resolution(n);
-    let k = own.0;
+    let k = own.number();
     if k == 0 {
         return 0;
     }
     let z = u64::leading_zeros(n % DIGITS_END) as u64;
     let at = (z - PREFIX_LENGTH) / 3 + 1;
     if k < at {
-        get_direction(n, Resolution(k))
+        get_direction(n, own)
     } else {
-        get_direction(n, Resolution(at))
+        get_direction(n, Resolution::new_unchecked(at))
     }
 }
 
 // The number with d as its digit of resolution r.
 pub fn set_direction(n: u64, r: Resolution, d: Digit) -> u64
-    requires { (1 ≤ r.0) × (r.0 ≤ 15) × (d.0 ≤ 6) }
-    ensures { Written n r.0 d.0 result }
+    requires { 1 ≤ r }
+    ensures { Written n r d result }
 {
-    let new = d.0;
-    let u = place(r);
+    let new = d.number();
+    let u = r.place();
     let old = get_direction(n, r);
     n - old * u + new * u
 }

@@ -2,12 +2,13 @@
 ghost use Rattle.std.specs.Prelude.{◌≡◌, ◌-◌, ◌≤◌, true, if◌then◌else◌, nat_eq};
 ghost use Rattle.index.specs.Layout.{is_pentagonal};
 ghost use Rattle.index.specs.Refusals.{answered, refused};
-ghost use Rattle.index.specs.Check.{check_of, told};
+ghost use Rattle.index.specs.Check.{check_of};
+ghost use Rattle.index.specs.Told.{number, told};
 ghost use Rattle.index.specs.Words.{Each, mark, ones, low};
 
 use crate::base_cell::pentagon_bit;
 use crate::bits::{ONES, get_base_cell, get_reserved, get_resolution, get_top, sel};
-use crate::{Cell, Checked, Refusal, Resolution};
+use crate::{Cell, Refusal, Resolution};
 use std::num::wrapping_sub_u64;
 
 // The bits above the resolution: mode 1.
@@ -25,10 +26,9 @@ fn marks(n: u64) -> u64
 
 // The marks of a number that has 7 past the resolution r and nowhere else.
 fn unused(r: Resolution) -> u64
-    requires { r.0 ≤ 15 }
-    ensures { result ≡ ones (15 - r.0) }
+    ensures { result ≡ ones (15 - r) }
 {
-    ONES >> (3 * r.0)
+    ONES >> (3 * r.number())
 }
 
 // The low bits of the digits, in pentagon base cells; elsewhere 0. They exceed the digits' other bits exactly if the first digit that is not 0 is 1.
@@ -80,25 +80,41 @@ fn likely_number(n: u64) -> u64
     refusal_number(n)
 }
 
-fn checked(n: u64, k: u64) -> Checked
+// The refusal of a number 1 to 7.
+fn refusal(k: u64) -> Refusal
+    requires { (1 ≤ k) × (k ≤ 7) }
+    ensures { number result ≡ k }
+{
+    match k {
+        1 => Refusal::TopBit,
+        2 => Refusal::Mode,
+        3 => Refusal::Reserved,
+        4 => Refusal::BaseCell,
+        5 => Refusal::Digit,
+        6 => Refusal::Unused,
+        _ => Refusal::Deleted,
+    }
+}
+
+fn checked(n: u64, k: u64) -> Result<Cell, Refusal>
     requires { (k ≤ 7) × (check_of n ≡ (if nat_eq k 0 then answered n else refused k)) }
     ensures { told result ≡ check_of n }
 {
     if k == 0 {
-        return Checked::Valid(Cell(n));
+        return Ok(Cell::new_unchecked(n));
     }
-    Checked::Refused(Refusal(k as u16))
+    Err(refusal(k))
 }
 
 // The check, for numbers that mostly are cells.
-pub fn check(n: u64) -> Checked
+pub fn check(n: u64) -> Result<Cell, Refusal>
     ensures { told result ≡ check_of n }
 {
     checked(n, likely_number(n))
 }
 
 // The check with no branch, for numbers of which many are bad.
-pub fn check_flat(n: u64) -> Checked
+pub fn check_flat(n: u64) -> Result<Cell, Refusal>
     ensures { told result ≡ check_of n }
 {
     checked(n, refusal_number(n))

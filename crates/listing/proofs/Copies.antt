@@ -1,11 +1,20 @@
 -- Runs and copies that go on with a listing's first elements. Assumes nothing.
-use Rattle.std.proofs.Common.{◌≡◌, ℕ, zero, suc, ◌+◌, ◌-◌, ◌*◌, ◌^◌, ◌<◌, ◌≤◌, List, ◌++◌, length, get_or, drop, set, sym, refl, ap, ◌∙◌, subst, mod-eq_of_lt, arith, length-set, drop-drop, drop_at}
+use Rattle.std.proofs.Common.{◌≡◌, ℕ, zero, suc, ◌+◌, ◌-◌, ◌*◌, ◌^◌, ◌<◌, ◌≤◌, List, ◌++◌, length, get_or, take, drop, set, sym, refl, ap, ◌∙◌, subst, mod-eq_of_lt, arith, length-set, drop-drop, drop_at}
+use Rattle.std.proofs.lemmas.List.{set-append_left, set-append_right, length-take-le}
+use borrow.Rule.Slice.PartMut.{put_mid}
 use lib.ListN.{get_or-append}
 use lib.Seq.{drop-append-add}
 use Rattle.descent.specs.Positions.{tab}
 use Rattle.listing.specs.Copies.{copies, ramp, stairs}
 use Rattle.descent.proofs.Tab.{length_tab, tab_length, tab_none, tab_more}
 use Rattle.descent.proofs.Whole.{get_or_tab}
+
+-- a write at j in the part is one at i + j
+pub set_part : (l p : List ℕ) (i w j v : ℕ) → i ≤ length l → j < length p → put_mid i w l (set p j v) ≡ set (put_mid i w l p) (i + j) v
+set_part l p i w j v h g =
+    let z : i + j - i ≡ j = omega arith in
+    let r = drop w (drop i l) in
+    sym (set-append_right (take i l) (p ++ r) i (i + j) v (length-take-le i l h) (omega arith) ∙ ap (λ (x : List ℕ). take i l ++ x) (rw z (set-append_left p r j v g)))
 
 length_copies : (l : List ℕ) (a k d s : ℕ) → length (copies l a k d s) ≡ length l
 unfolding copies

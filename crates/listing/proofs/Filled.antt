@@ -1,14 +1,17 @@
 -- The first numbers below a cell by runs of siblings; and the numbers below a first child are the children. Assumes nothing.
-use Rattle.std.proofs.Common.{◌≡◌, ℕ, zero, suc, ◌+◌, ◌-◌, ◌*◌, ◌^◌, ◌<◌, ◌≤◌, Bool, true, false, List, ◌++◌, length, drop, set, refl, ap, ◌∙◌, lt-suc_self, arith}
-use native.Mathlib.Nat.{le_step}
+use Rattle.std.proofs.Common.{◌≡◌, ℕ, zero, suc, ◌+◌, ◌-◌, ◌*◌, ◌^◌, ◌<◌, ◌≤◌, Bool, true, false, List, ◌++◌, length, drop, set, sym, refl, ap, ap₂, ◌∙◌, subst, lt-suc_self, arith}
+use native.Mathlib.Nat.{le_step, pow-le-pow_right}
 use Rattle.index.specs.Layout.{res_of, Valid}
 use Rattle.index.specs.View.{octal}
 use Rattle.descent.specs.Descendants.{pentagon, count, count_of}
 use Rattle.descent.specs.Positions.{below, child_at, tab, listing}
 use Rattle.listing.specs.Copies.{ramp, stairs, number_at}
+use Rattle.listing.specs.Filled.{nth_of, Filled}
+use Rattle.listing.specs.declared.blocks.Numbers.{Numbers}
+use Rattle.listing.proofs.Levels.{count_mono}
 use Rattle.descent.proofs.Start as start
 use Rattle.descent.proofs.Tab.{tab_none}
-use Rattle.listing.proofs.Copies.{put, ramped, staired}
+use Rattle.listing.proofs.Copies.{put, ramped, staired, again, then}
 use Rattle.listing.proofs.Strides.{origin, nth, octal_block, hexagon_block, pentagon_block, pentagon_over, number_first}
 
 -- the sibling j of the run x, whose own digits come to y
@@ -27,62 +30,85 @@ pentagon_each : (b u m j : ℕ) → 1 ≤ m → j < 5 → b + 2 * u + j * u ≡ 
 unfolding number_at
 pentagon_each b u m j h g = let z : 1 + j ≡ suc j = omega arith in rw (z, pentagon_block m j h g) (omega arith)
 
-module _ (b u m : ℕ) (l : List ℕ) where
-  one : (t : Bool) → 0 < length l → set l 0 b ≡ tab (number_at b u t m) 1 ++ drop 1 l
-  one t h = put (number_at b u t m) l b h (number_first b u m t)
+module _ (n : Numbers) (t : Bool) where
+  -- k of the numbers that are i levels down
+  module _ (i k : ℕ) (e : k ≤ count t i) where
+    pub room : (l : List ℕ) → i ≤ n.levels → count t n.levels ≤ length l → k ≤ length l
+    room l h r = omega (arith, count_mono t i n.levels h)
 
-  pub itself : (t : Bool) → m ≡ 0 → count t m ≤ length l → set l 0 b ≡ tab (number_at b u t m) (count t m) ++ drop (count t m) l
-  itself true e h = let z : count true m ≡ 1 = ap (count true) e in rw z (one true (omega arith))
-  itself false e h = let z : count false m ≡ 1 = ap (count false) e in rw z (one false (omega arith))
+    -- and after them the others
+    pub grown : (b l l' : List ℕ) → i ≤ n.levels → Filled n t k b l → Filled n t (count t n.levels) l l' → Filled n t (count t n.levels) b l'
+    grown b l l' h f g = then (nth_of n t) b l k f l' (count t n.levels) (omega (arith, count_mono t i n.levels h)) g
+
+  -- all of them
+  pub whole : (i k : ℕ) → k ≡ count t i → (b l : List ℕ) → n.levels ≡ i → Filled n t k b l → Filled n t (count t n.levels) b l
+  whole i k e b l h f = subst (λ (x : ℕ). Filled n t x b l) (e ∙ ap (count t) (sym h)) f
+
+  -- one call after another
+  pub stands : (k : ℕ) (b l : List ℕ) → Filled n t k b l → Filled n t k l l
+  stands k b l f = again (nth_of n t) b l k f
+
+module _ (n : Numbers) (l : List ℕ) where
+  one : (t : Bool) → 0 < length l → Filled n t 1 l (set l 0 n.first)
+  one t h = put (nth_of n t) l n.first h (number_first n.first n.unit n.levels t)
+
+  pub itself : (t : Bool) → 1 ≡ count t 0 → n.levels ≡ 0 → count t n.levels ≤ length l → Filled n t (count t n.levels) l (set l 0 n.first)
+  itself t e h r = whole n t 0 1 e l _ h (one t (room n t 0 1 (omega (arith, e)) l (omega arith) r))
 
   -- below a hexagon
-  pub hexagon_7 : (l' : List ℕ) → 1 ≤ m → 7 ≤ length l → l' ≡ ramp l 0 b u 7 → l' ≡ tab (number_at b u false m) 7 ++ drop 7 l
-  hexagon_7 l' h k q = q ∙ ramped (number_at b u false m) l l 0 b u 7 k (λ j. hexagon_each b u m j h) (tab_none _ l)
+  module _ (r : count false n.levels ≤ length l) where
+    pub hexagon_7 : (l' : List ℕ) → 1 ≤ n.levels → l' ≡ ramp l 0 n.first n.unit 7 → Filled n false 7 l l'
+    hexagon_7 l' h q = q ∙ ramped (nth_of n false) l l 0 n.first n.unit 7 (room n false 1 7 (omega arith) l h r) (λ j. hexagon_each n.first n.unit n.levels j h) (tab_none _ l)
 
-  pub hexagon_49 : (l' : List ℕ) → 2 ≤ m → 49 ≤ length l → l' ≡ stairs l 0 b u 7 → l' ≡ tab (number_at b u false m) 49 ++ drop 49 l
-  hexagon_49 l' h k q =
-      q ∙ staired (number_at b u false m) l l 0 b u 7 k
-      (λ x j g i. sibling false b u m x j x (0 + 7 * x + j) (b + x * (8 * u) + j * u) (omega arith) i (hexagon_block (m - 1) x (omega arith) g) (omega arith) refl) (tab_none _ l)
+    pub hexagon_49 : (l' : List ℕ) → 2 ≤ n.levels → l' ≡ stairs l 0 n.first n.unit 7 → Filled n false 49 l l'
+    hexagon_49 l' h q =
+        q ∙ staired (nth_of n false) l l 0 n.first n.unit 7 (room n false 2 49 (omega arith) l h r)
+        (λ x j g i. sibling false n.first n.unit n.levels x j x (0 + 7 * x + j) (n.first + x * (8 * n.unit) + j * n.unit) (omega arith) i (hexagon_block (n.levels - 1) x (omega arith) g) (omega arith) refl) (tab_none _ l)
 
   -- below a pentagon
-  pub pentagon_6 : (l₁ : List ℕ) → 1 ≤ m → 6 ≤ length l → l₁ ≡ ramp (set l 0 b) 1 (b + 2 * u) u 5 → l₁ ≡ tab (number_at b u true m) 6 ++ drop 6 l
-  pentagon_6 l₁ h k q = q ∙ ramped (number_at b u true m) l (set l 0 b) 1 (b + 2 * u) u 5 k (λ j. pentagon_each b u m j h) (one true (omega arith))
+  module _ (r : count true n.levels ≤ length l) where
+    pub pentagon_6 : (l' : List ℕ) → 1 ≤ n.levels → l' ≡ ramp (set l 0 n.first) 1 (n.first + 2 * n.unit) n.unit 5 → Filled n true 6 l l'
+    pentagon_6 l' h q =
+        let k = room n true 1 6 (omega arith) l h r in
+        q ∙ ramped (nth_of n true) l (set l 0 n.first) 1 (n.first + 2 * n.unit) n.unit 5 k (λ j. pentagon_each n.first n.unit n.levels j h) (one true (omega arith))
 
-  pub pentagon_41 : (l₁ l₂ : List ℕ) → 2 ≤ m → 41 ≤ length l → l₁ ≡ ramp (set l 0 b) 1 (b + 2 * u) u 5 → l₂ ≡ stairs l₁ 6 (b + 16 * u) u 5 →
-      l₂ ≡ tab (number_at b u true m) 41 ++ drop 41 l
-  pentagon_41 l₁ l₂ h k q₁ q₂ =
-      q₂ ∙ staired (number_at b u true m) l l₁ 6 (b + 16 * u) u 5 k
-      (λ x j g i. sibling true b u m x j (x + 2) (6 + 7 * x + j) (b + 16 * u + x * (8 * u) + j * u) (omega arith) i (pentagon_block (m - 1) x (omega arith) g) (omega arith) (omega arith))
-      (pentagon_6 l₁ (omega arith) (omega arith) q₁)
+    pub pentagon_41 : (l₁ l' : List ℕ) → 2 ≤ n.levels → l₁ ≡ ramp (set l 0 n.first) 1 (n.first + 2 * n.unit) n.unit 5 → l' ≡ stairs l₁ 6 (n.first + 16 * n.unit) n.unit 5 → Filled n true 41 l l'
+    pentagon_41 l₁ l' h q₁ q =
+        q ∙ staired (nth_of n true) l l₁ 6 (n.first + 16 * n.unit) n.unit 5 (room n true 2 41 (omega arith) l h r)
+        (λ x j g i. sibling true n.first n.unit n.levels x j (x + 2) (6 + 7 * x + j) (n.first + 16 * n.unit + x * (8 * n.unit) + j * n.unit) (omega arith) i (pentagon_block (n.levels - 1) x (omega arith) g) (omega arith) (omega arith)) (pentagon_6 l₁ (omega arith) q₁)
 
-  pub pentagon_90 : (l₁ l₂ l₃ : List ℕ) → 3 ≤ m → 90 ≤ length l → l₁ ≡ ramp (set l 0 b) 1 (b + 2 * u) u 5 → l₂ ≡ stairs l₁ 6 (b + 16 * u) u 5 → l₃ ≡ stairs l₂ 41 (b + 128 * u) u 7 →
-      l₃ ≡ tab (number_at b u true m) 90 ++ drop 90 l
-  pentagon_90 l₁ l₂ l₃ h k q₁ q₂ q₃ =
-      q₃ ∙ staired (number_at b u true m) l l₂ 41 (b + 128 * u) u 7 k
-      (λ x j g i. sibling true b u m (x + 5) j (x + 5 + 11) (41 + 7 * x + j) (b + 128 * u + x * (8 * u) + j * u) (omega arith) i (pentagon_over (m - 1) (x + 5) (omega arith) (omega arith) (omega arith)) (omega arith) (omega arith))
-      (pentagon_41 l₁ l₂ (omega arith) (omega arith) q₁ q₂)
+    pub pentagon_90 : (l₁ l₂ l' : List ℕ) → 3 ≤ n.levels → l₁ ≡ ramp (set l 0 n.first) 1 (n.first + 2 * n.unit) n.unit 5 → l₂ ≡ stairs l₁ 6 (n.first + 16 * n.unit) n.unit 5 → l' ≡ stairs l₂ 41 (n.first + 128 * n.unit) n.unit 7 → Filled n true 90 l l'
+    pentagon_90 l₁ l₂ l' h q₁ q₂ q =
+        q ∙ staired (nth_of n true) l l₂ 41 (n.first + 128 * n.unit) n.unit 7 (room n true 3 90 (omega arith) l h r)
+        (λ x j g i. sibling true n.first n.unit n.levels (x + 5) j (x + 5 + 11) (41 + 7 * x + j) (n.first + 128 * n.unit + x * (8 * n.unit) + j * n.unit) (omega arith) i (pentagon_over (n.levels - 1) (x + 5) (omega arith) (omega arith) (omega arith)) (omega arith) (omega arith)) (pentagon_41 l₁ l₂ (omega arith) q₁ q₂)
 
 tab_same : (f g : ℕ → ℕ) (k : ℕ) → ((p : ℕ) → p < k → f p ≡ g p) → tab f k ≡ tab g k
 unfolding tab
 tab_same f g zero h = refl
 tab_same f g (suc k) h = rw (tab_same f g k (λ p l. h p (le_step l)), h k (lt-suc_self k))
 
--- what `list` asks and gets, where the first child, the place value and the resolutions down are those of n
-module _ (n t : ℕ) (h64 : n < 2 ^ 64) (v : Valid n) (lo : res_of n ≤ t) (hi : t ≤ 15) (f : Bool) (first unit m : ℕ) (ef : f ≡ pentagon n) (e₀ : first ≡ child_at n t 0) (eu : unit ≡ 8 ^ (15 - t)) (em : m ≡ t - res_of n) where
-  pub asked : (l : List ℕ) → count_of n t ≤ length l → (m ≤ 15) × (unit * 8 ^ m ≤ 2 ^ 45) × (first < 2 ^ 63) × (count f m ≤ length l)
-  asked l h = (
-    omega arith,
-    rw (eu, em) (start.unit_room n t h64 v lo hi),
-    omega (arith, start.child_fits n t h64 v lo hi 0 (start.some_child n t h64 v lo hi)),
-    rw (ef, em) h,
-  )
+-- the numbers of a descent from n to t, in the words of the calls: w is t, and y is n
+module _ (n t : ℕ) (h64 : n < 2 ^ 64) (v : Valid n) (lo : res_of n ≤ t) (hi : t ≤ 15) (f u m w : ℕ) (ef : f ≡ child_at n t 0) (ew : w ≡ t) (eu : u ≡ 8 ^ (15 - w)) (em : m ≡ t - res_of n) where
+  unit_is : u ≡ 8 ^ (15 - t)
+  unit_is = eu ∙ ap (λ (x : ℕ). 8 ^ (15 - x)) ew
 
-  each : (p : ℕ) → p < count_of n t → number_at first unit f m p ≡ child_at n t p
-  unfolding number_at
-  each p h = rw (ef, e₀, eu, em) (start.child_sum n t h64 v lo hi p h)
+  pub bounds : (m ≤ 15) × (u ≤ 2 ^ 45) × (u * 8 ^ m ≤ 2 ^ 45) × (f < 2 ^ 63)
+  bounds =
+      let l : 8 ^ (15 - t) ≤ 8 ^ 15 = pow-le-pow_right (omega arith) {i = 15 - t} {j = 15} (omega arith) in
+      let r : u * 8 ^ m ≤ 2 ^ 45 = rw (unit_is, em) (start.unit_room n t h64 v lo hi) in
+      (omega arith, omega (arith, unit_is), r, omega (arith, start.child_fits n t h64 v lo hi 0 (start.some_child n t h64 v lo hi)))
 
-  pub listed : (b l : List ℕ) → l ≡ tab (number_at first unit f m) (count f m) ++ drop (count f m) b → l ≡ listing n t ++ drop (count_of n t) b
-  unfolding listing
-  listed b l q =
-      let e : count f m ≡ count_of n t = rw (ef, em) in
-      (rw e at q) ∙ ap (λ (x : List ℕ). x ++ drop (count_of n t) b) (tab_same _ _ (count_of n t) each)
+  module _ (y : ℕ) (p q : Bool) (is : q ≡ p) (ey : y ≡ n) (eq : q ≡ pentagon y) where
+    which : p ≡ pentagon n
+    which = sym is ∙ eq ∙ ap pentagon ey
+
+    counted : count p m ≡ count_of n t
+    counted = ap₂ count which em
+
+    each : (x : ℕ) → x < count_of n t → number_at f u p m x ≡ child_at n t x
+    unfolding number_at
+    each x h = rw (which, ef, unit_is, em) (start.child_sum n t h64 v lo hi x h)
+
+    pub listed : (b l : List ℕ) → l ≡ tab (number_at f u p m) (count p m) ++ drop (count p m) b → l ≡ listing n t ++ drop (count_of n t) b
+    unfolding listing
+    listed b l e = (rw counted at e) ∙ ap (λ (x : List ℕ). x ++ drop (count_of n t) b) (tab_same _ _ (count_of n t) each)

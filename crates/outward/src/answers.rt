@@ -1,9 +1,13 @@
 // The structs that exports hand out, each made of what an entry answered.
 ghost use Rattle.std.specs.Prelude.{◌≡◌, ◌<◌};
-ghost use Rattle.entry.specs.Answers.{number_told, truth_told, point_told, pair_told, walked_told, stepped_told};
+ghost use Rattle.index.specs.Refusals.{number_of};
+ghost use Rattle.index.specs.Told.{told};
+ghost use Rattle.step_entries.specs.Told.{walked_told, stepped_told};
 ghost use Rattle.outward.specs.Exports.{number_out, truth_out, point_out, pair_out, walked_out, stepped_out};
 
-use entry::{Number, Pair, Point, Stepped, Truth, Walked};
+use index::Refusal;
+use plane::ijk::{IJ, IJK};
+use step_entries::{Stepped, Walked};
 
 #[repr(C)]
 #[derive(Clone, Copy)]
@@ -61,127 +65,131 @@ pub struct RgStepped {
     pub cell: u64,
 }
 
-// An answer that has no value.
-pub fn refusal_out(refusal: u16) -> RgChecked
-    ensures { (result.refusal ≡ refusal) × (result.zero ≡ 0) }
-{
-    RgChecked { refusal, zero: 0 }
-}
+impl From<Result<(), Refusal>> for RgChecked {
+    ghost from_gives = { λ a r. (r.refusal ≡ number_of (told a)) × (r.zero ≡ 0) };
 
-pub fn number_out(a: Number) -> RgNumber
-    ensures { result ≡ number_out (number_told a) }
-{
-    match a {
-        Number::Is(value) => RgNumber {
-            refusal: 0,
-            zero: 0,
-            value,
-        },
-        Number::Refused(x) => RgNumber {
-            refusal: x.number(),
-            zero: 0,
-            value: 0,
-        },
+    fn from(a: Result<(), Refusal>) -> Self {
+        let refusal = match a {
+            Ok(()) => 0,
+            Err(x) => x.number(),
+        };
+        RgChecked { refusal, zero: 0 }
     }
 }
 
-pub fn truth_out(a: Truth) -> RgNumber
-    ensures { result ≡ truth_out (truth_told a) }
-{
-    match a {
-        Truth::Is(b) => RgNumber {
-            refusal: 0,
-            zero: 0,
-            value: b as u64,
-        },
-        Truth::Refused(x) => RgNumber {
-            refusal: x.number(),
-            zero: 0,
-            value: 0,
-        },
+impl From<Result<u64, Refusal>> for RgNumber {
+    ghost from_gives = { λ a r. r ≡ number_out (told a) };
+
+    fn from(a: Result<u64, Refusal>) -> Self {
+        match a {
+            Ok(value) => RgNumber {
+                refusal: 0,
+                zero: 0,
+                value,
+            },
+            Err(x) => RgNumber {
+                refusal: x.number(),
+                zero: 0,
+                value: 0,
+            },
+        }
     }
 }
 
-pub fn point_out(a: Point) -> RgPoint
-    ensures { result ≡ point_out (point_told a) }
-{
-    match a {
-        Point::At(p) => RgPoint {
-            refusal: 0,
-            zero: 0,
-            i: p.i,
-            j: p.j,
-            k: p.k,
-        },
-        Point::Refused(x) => RgPoint {
-            refusal: x.number(),
-            zero: 0,
-            i: 0,
-            j: 0,
-            k: 0,
-        },
+impl From<Result<bool, Refusal>> for RgNumber {
+    ghost from_gives = { λ a r. r ≡ truth_out (told a) };
+
+    fn from(a: Result<bool, Refusal>) -> Self {
+        RgNumber::from(a.map(u64::from))
     }
 }
 
-pub fn pair_out(a: Pair) -> RgPair
-    ensures { result ≡ pair_out (pair_told a) }
-{
-    match a {
-        Pair::At(p) => RgPair {
-            refusal: 0,
-            zero: 0,
-            i: p.i,
-            j: p.j,
-        },
-        Pair::Refused(x) => RgPair {
-            refusal: x.number(),
-            zero: 0,
-            i: 0,
-            j: 0,
-        },
+impl From<Result<IJK, Refusal>> for RgPoint {
+    ghost from_gives = { λ a r. r ≡ point_out (told a) };
+
+    fn from(a: Result<IJK, Refusal>) -> Self {
+        match a {
+            Ok(IJK { i, j, k }) => RgPoint {
+                refusal: 0,
+                zero: 0,
+                i,
+                j,
+                k,
+            },
+            Err(x) => RgPoint {
+                refusal: x.number(),
+                zero: 0,
+                i: 0,
+                j: 0,
+                k: 0,
+            },
+        }
     }
 }
 
-pub fn walked_out(a: Walked) -> RgWalked
-    ensures { result ≡ walked_out (walked_told a) }
-{
-    match a {
-        Walked::To(number, carry) => RgWalked {
-            refusal: 0,
-            zero: 0,
-            carry,
-            number,
-        },
-        Walked::Refused(x) => RgWalked {
-            refusal: x.number(),
-            zero: 0,
-            carry: 0,
-            number: 0,
-        },
+impl From<Result<IJ, Refusal>> for RgPair {
+    ghost from_gives = { λ a r. r ≡ pair_out (told a) };
+
+    fn from(a: Result<IJ, Refusal>) -> Self {
+        match a {
+            Ok(IJ { i, j }) => RgPair {
+                refusal: 0,
+                zero: 0,
+                i,
+                j,
+            },
+            Err(x) => RgPair {
+                refusal: x.number(),
+                zero: 0,
+                i: 0,
+                j: 0,
+            },
+        }
     }
 }
 
-// The turn number and the direction have to fit 16 bits.
-pub fn stepped_out(a: Stepped) -> RgStepped
+impl From<Result<Walked, Refusal>> for RgWalked {
+    ghost from_gives = { λ a r. r ≡ walked_out (walked_told a) };
+
+    fn from(a: Result<Walked, Refusal>) -> Self {
+        match a {
+            Ok(Walked { number, carry }) => RgWalked {
+                refusal: 0,
+                zero: 0,
+                carry,
+                number,
+            },
+            Err(x) => RgWalked {
+                refusal: x.number(),
+                zero: 0,
+                carry: 0,
+                number: 0,
+            },
+        }
+    }
+}
+
+// No `From`, which may ask nothing: the turn number and the direction have to fit 16 bits.
+pub fn stepped_out(a: Result<Stepped, Refusal>) -> RgStepped
     requires { (stepped_out (stepped_told a)).turn < 65536 }
     ensures { result ≡ stepped_out (stepped_told a) }
 {
     match a {
-        Stepped::Inside(cell, turn) => RgStepped {
+        Ok(Stepped::Inside(cell, turn)) => RgStepped {
             refusal: 0,
             zero: 0,
             kind: 0,
             turn: turn as u16,
             cell,
         },
-        Stepped::Leaves(way) => RgStepped {
+        Ok(Stepped::Leaves(way)) => RgStepped {
             refusal: 0,
             zero: 0,
             kind: 1,
             turn: way as u16,
             cell: 0,
         },
-        Stepped::Refused(x) => RgStepped {
+        Err(x) => RgStepped {
             refusal: x.number(),
             zero: 0,
             kind: 0,

@@ -4,8 +4,5 @@
 mod answers;
 mod cursors;
 
-pub use answers::{
-    RgChecked, RgNumber, RgPair, RgPoint, RgStepped, RgWalked, number_out, pair_out, point_out,
-    refusal_out, stepped_out, truth_out, walked_out,
-};
-pub use cursors::{Read, cursor_in, given_out, started_out};
+pub use answers::{RgChecked, RgNumber, RgPair, RgPoint, RgStepped, RgWalked, stepped_out};
+pub use cursors::{cursor_in, given_out, started_out};

@@ -8,6 +8,8 @@ use native.Mathlib.Nat.{mul-le-mul_left}
 use lib.Dec.{T, leb→le, eqb, eqb→eq, eqb_refl}
 use lib.IntN.{ℤ, pos, negsuc, neg_ℤ, nat_abs, ◌+ℤ◌, ◌-ℤ◌, ◌*ℤ◌}
 use lib.Signed.{mag}
+use Rattle.std.specs.Int.{int_min}
+use Rattle.std.proofs.Common.{rules}
 use mir.Syntax.{w32}
 use mir.Val.{SFits, to_z, of_z}
 use mir.Facts.{to_z-of_z}
@@ -116,3 +118,7 @@ in_range_within t h =
 
 pub within_broad : (m n : ℕ) (t : IJK) → m + m ≤ n → Within m t → Broad n t
 within_broad m n t h w = record { i = omega (arith, abs_sub t.i t.k); j = omega (arith, abs_sub t.j t.k) }
+
+-- the machine's lesser of two is the document's
+pub min_lesser : (x y : ℤ) → int_min x y ≡ lesser x y
+min_lesser x y = search rules

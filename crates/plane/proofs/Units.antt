@@ -7,12 +7,10 @@ use native.Mathlib.Omega.{arith}
 use lib.Dec.{T}
 use lib.IntN.{ℤ, pos, negsuc}
 use lib.Signed.{le_z}
+use Rattle.std.proofs.Common.{Option, Some, None}
 use Rattle.plane.specs.Directions.{vec, unit}
-use Rattle.plane.specs.Points.{lesser, greater, least, largest, normal, Same, value, direction, direction_of}
+use Rattle.plane.specs.Points.{lesser, greater, least, largest, normal, Same, value, direction_of}
 use Rattle.plane.specs.declared.ijk.IJK.{IJK}
-use Rattle.plane.specs.declared.direction.Direction.{Direction}
-use Rattle.plane.specs.declared.ijk.Way.{Way}
-use Rattle.plane.specs.declared.ijk.Way.TheVariants.{Found, NotUnit}
 use Rattle.plane.proofs.Every.{at, at_eq}
 use Rattle.plane.proofs.Whole.{whole, diffs, pp, np, parts_same}
 use Rattle.plane.proofs.Normal.{normal_least}
@@ -73,48 +71,48 @@ pub unit_one : (d e : ℕ) → d < 7 → e < 7 → Same (unit d) (unit e) → d 
 unit_one d e hd he s = sym (unit_value d hd) ∙ ap value s ∙ unit_value e he
 
 -- the direction of a point
-abbrev answer : Bool → ℕ → Way
-answer b d = cond b (Found (direction d)) NotUnit
+abbrev answer : Bool → ℕ → Option ℕ
+answer b d = cond b (Some d) None
 
 T_true : (b : Bool) → T b → b ≡ true
 T_true true t = refl
 T_true false t = absurd t
 
-pub found : (t : IJK) (d : ℕ) → d < 7 → Same t (unit d) → direction_of t ≡ Found (direction d)
+pub found : (t : IJK) (d : ℕ) → d < 7 → Same t (unit d) → direction_of t ≡ Some d
 found t d h s =
     ap (λ (n : IJK). answer (le_z (largest n) (pos 1)) (value n)) s
     ∙ ap₂ answer (T_true (le_z (largest (normal (unit d))) (pos 1)) (unit_small d h)) (unit_value d h)
 
 -- a point has a direction, or has none
-split : (t : IJK) (b : Bool) → le_z (largest (normal t)) (pos 1) ≡ b → ((d : ℕ) × (d < 7) × Same t (unit d)) ⊎ (direction_of t ≡ NotUnit)
+split : (t : IJK) (b : Bool) → le_z (largest (normal t)) (pos 1) ≡ b → ((d : ℕ) × (d < 7) × Same t (unit d)) ⊎ (direction_of t ≡ None)
 split t true e =
     let n = normal t in
     let r = small_unit n (normal_least t) (subst T (sym e) tt) in
     inl (value n, r.0, r.1 ∙ sym (unit_normal (value n) r.0))
 split t false e = inr (ap (λ (b : Bool). answer b (value (normal t))) e)
 
-pub found_or_not : (t : IJK) → ((d : ℕ) × (d < 7) × Same t (unit d)) ⊎ (direction_of t ≡ NotUnit)
+pub found_or_not : (t : IJK) → ((d : ℕ) × (d < 7) × Same t (unit d)) ⊎ (direction_of t ≡ None)
 found_or_not t = split t (le_z (largest (normal t)) (pos 1)) refl
 
-pub apart : (w : Way) (d : ℕ) → w ≡ Found (direction d) → w ≡ NotUnit → ⊥
+pub apart : (w : Option ℕ) (d : ℕ) → w ≡ Some d → w ≡ None → ⊥
 apart w d p q = let z : ◌≡◌ {A = ℕ} 0 1 = cc in omega arith
 
-alike : (w : Way) (d e : ℕ) → w ≡ Found (direction d) → w ≡ Found (direction e) → d ≡ e
-alike w d e p q = let s : direction d ≡ direction e = cc in ap (λ (x : Direction). x.0) s
+alike : (w : Option ℕ) (d e : ℕ) → w ≡ Some d → w ≡ Some e → d ≡ e
+alike w d e p q = cc
 
-pub direction_found : (t : IJK) (d : ℕ) → (direction_of t ≡ Found (direction d)) ↔ ((d < 7) × Same t (unit d))
+pub direction_found : (t : IJK) (d : ℕ) → (direction_of t ≡ Some d) ↔ ((d < 7) × Same t (unit d))
 direction_found t d = (
   λ e.
       ⊎_elim
       (λ (w : (e : ℕ) × (e < 7) × Same t (unit e)).
       subst (λ (n : ℕ). (n < 7) × Same t (unit n)) (alike (direction_of t) w.0 d (found t w.0 w.1 w.2) e) (w.1, w.2))
-      (λ (n : direction_of t ≡ NotUnit). absurd (apart (direction_of t) d e n))
+      (λ (n : direction_of t ≡ None). absurd (apart (direction_of t) d e n))
       (found_or_not t),
   λ w. found t d w.0 w.1,
 )
 
-pub not_unit : (t : IJK) → (direction_of t ≡ NotUnit) ↔ ((d : ℕ) → d < 7 → Same t (unit d) → ⊥)
+pub not_unit : (t : IJK) → (direction_of t ≡ None) ↔ ((d : ℕ) → d < 7 → Same t (unit d) → ⊥)
 not_unit t = (
   λ e d h s. apart (direction_of t) d (found t d h s) e,
-  λ none. ⊎_elim (λ (w : (d : ℕ) × (d < 7) × Same t (unit d)). absurd (none w.0 w.1 w.2)) (λ (e : direction_of t ≡ NotUnit). e) (found_or_not t),
+  λ none. ⊎_elim (λ (w : (d : ℕ) × (d < 7) × Same t (unit d)). absurd (none w.0 w.1 w.2)) (λ (e : direction_of t ≡ None). e) (found_or_not t),
 )

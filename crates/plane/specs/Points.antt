@@ -1,12 +1,9 @@
 -- Document 01, "Signed coordinates (ijk.rs)": a point is a triple of whole numbers; a sense of turning is `true` for counter-clockwise.
-use Rattle.std.specs.Prelude.{◌≡◌, Bool, true, false, ◌&&◌, cond, ℕ, suc, ◌/◌, ◌+◌, ℤ, pos, negsuc, neg_ℤ, nat_abs, ◌+ℤ◌, ◌-ℤ◌, ◌*ℤ◌, eqb}
+use Rattle.std.specs.Prelude.{Option, Some, None, ◌≡◌, Bool, true, false, ◌&&◌, cond, ℕ, suc, ◌/◌, ◌+◌, ℤ, pos, negsuc, neg_ℤ, nat_abs, ◌+ℤ◌, ◌-ℤ◌, ◌*ℤ◌, eqb}
 use Rattle.std.specs.Int.Signed.{le_z}
 use Rattle.plane.specs.Directions.{triple, vec}
 use Rattle.plane.specs.declared.ijk.IJK.{IJK}
 use Rattle.plane.specs.declared.ijk.IJ.{IJ}
-use Rattle.plane.specs.declared.direction.Direction.{Direction}
-use Rattle.plane.specs.declared.ijk.Way.{Way}
-use Rattle.plane.specs.declared.ijk.Way.TheVariants.{Found, NotUnit}
 
 -- normalising subtracts the least component from all three
 abbrev pub lesser : ℤ → ℤ → ℤ
@@ -95,8 +92,5 @@ up7 o t = of_ij (pair (nearest (sevenfold o (ij t)).i) (nearest (sevenfold o (ij
 abbrev pub value : IJK → ℕ
 value t = nat_abs (pos 4 *ℤ t.i +ℤ (pos 2 *ℤ t.j +ℤ t.k))
 
-abbrev pub direction : ℕ → Direction
-direction d = record { 0 = d }
-
-abbrev pub direction_of : IJK → Way
-direction_of t = cond (le_z (largest (normal t)) (pos 1)) (Found (direction (value (normal t)))) NotUnit
+abbrev pub direction_of : IJK → Option ℕ
+direction_of t = cond (le_z (largest (normal t)) (pos 1)) (Some (value (normal t))) None

@@ -2,36 +2,50 @@ ghost use Rattle.std.specs.Prelude.{◌≡◌, true, false, cond, ◌≤◌, ◌
 ghost use Rattle.plane.specs.Directions.{unit, turn, turns};
 
 use crate::ijk::IJK;
+use crate::rotation::Rotation;
+use std::marker::Model;
 
 // A direction, 0 to 6.
-#[derive(Clone, Copy)]
+#[derive(Clone, Copy, Debug, PartialEq, Eq, PartialOrd, Ord, Hash)]
 pub struct Direction(u8);
 
-// The direction of a number.
-pub fn new_unchecked(value: u8) -> Direction
-    requires { value < 7 }
-    ensures { result.0 ≡ value }
-{
-    Direction(value)
+impl Model for Direction {
+    ghost use Rattle.std.specs.Prelude.{ℕ, ◌<◌};
+
+    ghost Value = { ℕ };
+
+    ghost view = { λ d. d.0 };
+
+    ghost invariant = { λ d. d.0 < 7 };
+
+    ghost inverse = { λ n. record { 0 = n } };
 }
 
-// The number of a direction.
-pub fn value(d: Direction) -> u8
-    ensures { result ≡ d.0 }
-{
-    d.0
-}
+impl Direction {
+    pub fn new_unchecked(value: u8) -> Self
+        requires { value < 7 }
+        ensures { result ≡ value }
+    {
+        Direction(value)
+    }
 
-// The unit vector.
-pub fn coordinate(d: Direction) -> IJK
-    requires { d.0 < 7 }
-    ensures { result ≡ unit d.0 }
-{
-    let v = d.0;
-    IJK {
-        i: (v / 4) as i32,
-        j: (v / 2 % 2) as i32,
-        k: (v % 2) as i32,
+    pub fn value(self) -> u8
+        ensures value { result ≡ self }
+        ensures below { self < 7 }
+    {
+        self.0
+    }
+
+    // The unit vector.
+    pub fn coordinate(self) -> IJK
+        ensures { result ≡ unit self }
+    {
+        let v = self.0;
+        IJK {
+            i: (v / 4) as i32,
+            j: (v / 2 % 2) as i32,
+            k: (v % 2) as i32,
+        }
     }
 }
 
@@ -67,36 +81,37 @@ fn next_cw(v: u8) -> u8
     }
 }
 
-// The direction turned once, by 60 degrees. Two choices of six, since one of twelve becomes a jump table.
-pub fn rotate60_once(d: Direction, ccw: bool) -> Direction
-    requires { d.0 < 7 }
-    ensures { result.0 ≡ turn ccw d.0 }
-{
-    let v = d.0;
-    if ccw {
-        Direction(next_ccw(v))
-    } else {
-        Direction(next_cw(v))
+impl Direction {
+    // Turned once, by 60 degrees. Two choices of six, since one of twelve becomes a jump table.
+    pub fn rotate60_once(self, ccw: bool) -> Self
+        ensures { result ≡ turn ccw self }
+    {
+        let v = self.0;
+        if ccw {
+            Direction(next_ccw(v))
+        } else {
+            Direction(next_cw(v))
+        }
     }
-}
 
-// Turned once, or not.
-fn rotate60_where(turns: bool, d: Direction, ccw: bool) -> Direction
-    requires { d.0 < 7 }
-    ensures { result.0 ≡ cond turns (turn ccw d.0) d.0 }
-{
-    let turned = rotate60_once(d, ccw);
-    if turns { turned } else { d }
-}
+    // Turned once, or not.
+    fn rotate60_where(self, turns: bool, ccw: bool) -> Self
+        ensures { result ≡ cond turns (turn ccw self) self }
+    {
+        let turned = self.rotate60_once(ccw);
+        if turns { turned } else { self }
+    }
 
-// The direction turned `count` times, with no branch, since no count foretells the next.
-pub fn rotate60(d: Direction, ccw: bool, count: u8) -> Direction
-    requires { (d.0 < 7) × (count ≤ 5) }
-    ensures { result.0 ≡ turns ccw count d.0 }
-{
-    let one = rotate60_where(0 < count, d, ccw);
-    let two = rotate60_where(1 < count, one, ccw);
-    let three = rotate60_where(2 < count, two, ccw);
-    let four = rotate60_where(3 < count, three, ccw);
-    rotate60_where(4 < count, four, ccw)
+    // Turned by a count, with no branch, since no count foretells the next.
+    pub fn rotate60(self, by: Rotation) -> Self
+        ensures { result ≡ turns by.0 by.1 self }
+    {
+        let ccw = by.is_ccw();
+        let count = by.count();
+        let one = self.rotate60_where(0 < count, ccw);
+        let two = one.rotate60_where(1 < count, ccw);
+        let three = two.rotate60_where(2 < count, ccw);
+        let four = three.rotate60_where(3 < count, ccw);
+        four.rotate60_where(4 < count, ccw)
+    }
 }

@@ -5,12 +5,11 @@ ghost use Rattle.plane.specs.Directions.{unit};
 ghost use Rattle.plane.specs.Points as points;
 ghost use Rattle.plane.specs.Ranges.{point_in_range, Within, Broad};
 
-use crate::direction;
 use crate::direction::Direction;
-use crate::number::{greater, in_range, less, lesser, scaled};
+use crate::number::{in_range, less, scaled};
 
 // A point of the plane.
-#[derive(Clone, Copy)]
+#[derive(Clone, Copy, Debug, PartialEq, Eq, Hash)]
 pub struct IJK {
     pub i: i32,
     pub j: i32,
@@ -18,31 +17,17 @@ pub struct IJK {
 }
 
 // The IJ form of a point.
-#[derive(Clone, Copy)]
+#[derive(Clone, Copy, Debug, PartialEq, Eq, Hash)]
 pub struct IJ {
     pub i: i32,
     pub j: i32,
-}
-
-// The direction of a point, where it is a unit vector or zero.
-#[derive(Clone, Copy)]
-pub enum Way {
-    Found(Direction),
-    NotUnit,
 }
 
 // Whether each coordinate is within the entry range.
 pub fn point_in_range(p: IJK) -> bool
     ensures { result ≡ point_in_range p }
 {
-    let i = p.i;
-    let j = p.j;
-    let k = p.k;
-    if in_range(i) {
-        if in_range(j) { in_range(k) } else { false }
-    } else {
-        false
-    }
+    in_range(p.i) && in_range(p.j) && in_range(p.k)
 }
 
 // The same point in normal form.
@@ -53,7 +38,7 @@ pub fn normalize(p: IJK) -> IJK
     let i = p.i;
     let j = p.j;
     let k = p.k;
-    let m = lesser(i, lesser(j, k));
+    let m = i.min(j.min(k));
     IJK {
         i: i - m,
         j: j - m,
@@ -61,37 +46,12 @@ pub fn normalize(p: IJK) -> IJK
     }
 }
 
-// Whether both hold. Both are known, so that no branch is made.
-fn both(a: bool, b: bool) -> bool
-    ensures { result ≡ (a && b) }
-{
-    if a { b } else { false }
-}
-
-// Whether two triples are equal.
-fn equal(p: IJK, q: IJK) -> bool
-    ensures { result ≡ points.equals p q }
-{
-    let a = p.i;
-    let b = p.j;
-    let c = p.k;
-    let d = q.i;
-    let e = q.j;
-    let f = q.k;
-    let i = a == d;
-    let j = b == e;
-    let k = c == f;
-    both(i, both(j, k))
-}
-
 // Whether two triples mean one point.
 pub fn same_point(p: IJK, q: IJK) -> bool
     requires { (Within 1000000000 p) × (Within 1000000000 q) }
     ensures { result ≡ points.same p q }
 {
-    let a = normalize(p);
-    let b = normalize(q);
-    equal(a, b)
+    normalize(p) == normalize(q)
 }
 
 // The difference of two points, not in normal form.
@@ -119,7 +79,7 @@ fn largest(p: IJK) -> i32
     let i = p.i;
     let j = p.j;
     let k = p.k;
-    greater(i, greater(j, k))
+    i.max(j.max(k))
 }
 
 // How far apart two points are.
@@ -152,23 +112,23 @@ pub fn of_ij(i: i32, j: i32) -> IJK
 // 4i + 2j + k of a unit vector.
 fn direction_of_unit(p: IJK) -> Direction
     requires { (points.value p < 7) × (p ≡ unit (points.value p)) }
-    ensures { result.0 ≡ points.value p }
+    ensures { result ≡ points.value p }
 {
     let i = p.i;
     let j = p.j;
     let k = p.k;
-    direction::new_unchecked(scaled(4, i, scaled(2, j, k)) as u8)
+    Direction::new_unchecked(scaled(4, i, scaled(2, j, k)) as u8)
 }
 
-// The direction of a point.
-pub fn direction_of(p: IJK) -> Way
+// The direction of a point, where it is a unit vector or zero.
+pub fn direction_of(p: IJK) -> Option<Direction>
     requires { Within 1000000000 p }
     ensures { result ≡ points.direction_of p }
 {
     let n = normalize(p);
     if largest(n) <= 1 {
-        Way::Found(direction_of_unit(n))
+        Some(direction_of_unit(n))
     } else {
-        Way::NotUnit
+        None
     }
 }

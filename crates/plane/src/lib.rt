@@ -4,3 +4,4 @@
 pub mod direction;
 pub mod ijk;
 pub mod number;
+pub mod rotation;

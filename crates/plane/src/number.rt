@@ -10,25 +10,7 @@ ghost use Rattle.plane.specs.Strings.{odd};
 pub fn in_range(n: i32) -> bool
     ensures { result ≡ in_range n }
 {
-    if n < -100000000 {
-        false
-    } else {
-        n <= 100000000
-    }
-}
-
-// The lesser of two.
-pub(crate) fn lesser(a: i32, b: i32) -> i32
-    ensures { result ≡ points.lesser a b }
-{
-    if a <= b { a } else { b }
-}
-
-// The greater of two.
-pub(crate) fn greater(a: i32, b: i32) -> i32
-    ensures { (result ≡ points.greater a b) × (SFits w32 result) }
-{
-    if a <= b { b } else { a }
+    n.unsigned_abs() <= 100000000
 }
 
 // a - b

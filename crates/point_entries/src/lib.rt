@@ -4,7 +4,6 @@
 mod entries;
 
 pub use entries::{
-    direction_of, direction_turn_ccw, direction_turn_cw, distance, down3_ccw, down3_cw, down7_ccw,
-    down7_cw, from_ij, neighbour, normalise, point_turn_ccw, point_turn_cw, same_point, to_ij,
-    unit, up7_ccw, up7_cw,
+    direction_of, direction_turn, distance, down3, down7, from_ij, neighbour, normalise,
+    point_turn, same_point, to_ij, unit, up7,
 };

@@ -6,7 +6,7 @@ use mathlib.Core.List.{List}
 use Prim.Native.Nat.{ℕ, zero, suc, ◌+◌, ◌-◌, ◌*◌, ◌/◌, ◌%◌, ◌^◌, ◌≤◌, ◌<◌}
 use native.Mathlib.Nat.{pow-le-pow_right}
 use native.Mathlib.Omega.{arith}
-use lib.Count.{count_leading_zeros, leading_le}
+use lib.Count.{count_leading_zeros}
 use Rattle.index.specs.Layout.{res_of, Valid}
 use Rattle.index.specs.View.{octal}
 use Rattle.index.specs.Ancestor.{ancestor_of}
@@ -33,45 +33,60 @@ Back f n k m = (below f m (rank f (seg n k m)) ≡ seg n k m) × (rank f (seg n 
 moved : (f g : Bool) (n k i k' i' : ℕ) → g ≡ f → k ≡ k' → i ≡ i' → Back f n k i → Back g n k' i'
 moved f g n k i k' i' e₁ e₂ e₃ h = rw (e₁, ← e₂, ← e₃) h
 
-module _ (n own m x u v : ℕ) (f : Bool) (h64 : n < 2 ^ 64) (ok : Valid n) (e : own + m ≡ res_of n) (ef : f ≡ pentagon (ancestor_of n own))
-    (ex : x ≡ 15 - m) (eu : u ≡ 8 ^ (15 - x)) (ev : v ≡ n / 2 ^ (3 * (15 - (own + m))) % u) where
+-- from the word v and the number p that is read from it: the position r, below a pentagon less what is taken
+pub record Ranked (f : Bool) (v p r : ℕ) : Type 0 where
+  pub hexagon : f ≡ false → p ≡ r
+  pub few : f ≡ true → (66 - count_leading_zeros 64 v) / 3 ≤ 15
+  pub pentagon : f ≡ true → (s : ℕ) → s ≡ 7 ^ ((66 - count_leading_zeros 64 v) / 3) → ((s - 1) / 6 ≤ p) × (p - (s - 1) / 6 ≡ r)
+
+-- of the word v: it is short, and what is read from it gives the position r
+pub record Word (f : Bool) (v r : ℕ) : Type 0 where
+  pub short : v < 2 ^ 45
+  pub ranked : (p : ℕ) → ((q : ℕ) → q < 7 ^ 16 → v ≡ octal (below false 16 q) → p ≡ q) → Ranked f v p r
+
+module _ (n own fine x u v : ℕ) (f : Bool) (h64 : n < 2 ^ 64) (ok : Valid n) (low : own ≤ fine) (e : fine ≡ res_of n) (ef : f ≡ pentagon (ancestor_of n own))
+    (ex : x ≡ 15 - (fine - own)) (eu : u ≡ 8 ^ (15 - x)) (ev : v ≡ n / 2 ^ (3 * (15 - fine)) % u) where
+  abbrev m : ℕ
+  m = fine - own
+
   abbrev xs : List ℕ
   xs = seg n own m
-
-  low : own ≤ res_of n
-  low = omega arith
 
   back : Back f n own m
   back =
       let a : ℕ = ancestor_of n own in
-      let r = own_is n own h64 ok low in
-      let d = digits_back a (res_of n) (owner_fits n own h64 ok low) (owner_valid n own h64 ok low) (owner_low n own h64 ok low) (omega arith) n (ancestor_above n own h64 ok low) in
+      let l : own ≤ res_of n = rw (← e) low in
+      let r = own_is n own h64 ok l in
+      let d = digits_back a (res_of n) (owner_fits n own h64 ok l) (owner_valid n own h64 ok l) (owner_low n own h64 ok l) (omega arith) n (ancestor_above n own h64 ok l) in
       moved (pentagon a) f n (res_of a) (res_of n - res_of a) own m ef r (omega arith) d
 
-  word : v ≡ octal xs
+  digits : v ≡ octal xs
   unfolding run
-  word = let k : 15 - x ≡ m = omega arith in ev ∙ rw (eu, k) (sym (octal_seg n own m (omega arith)))
+  digits =
+      let k : 15 - x ≡ m = omega arith in
+      let w : 15 - fine ≡ 15 - (own + m) = omega arith in
+      ev ∙ rw (eu, k, w) (sym (octal_seg n own m (omega arith)))
 
-  pub short : v < 2 ^ 45
+  short : v < 2 ^ 45
   short =
       let l : 8 ^ m ≤ 8 ^ 15 = pow-le-pow_right (omega arith) {i = m} {j = 15} (omega arith) in
-      omega (arith, word, octal_seg n own m (omega arith), run_lt n own m)
+      omega (arith, digits, octal_seg n own m (omega arith), run_lt n own m)
 
   module _ (p : ℕ) (ep : (q : ℕ) → q < 7 ^ 16 → v ≡ octal (below false 16 q) → p ≡ q) where
     reads : (q : ℕ) → q < 7 ^ m → octal xs ≡ octal (below false m q) → p ≡ q
-    reads q h g = let s = octal_sixteen m q (omega arith) h in ep q s.0 (word ∙ g ∙ s.1)
+    reads q h g = let s = octal_sixteen m q (omega arith) h in ep q s.0 (digits ∙ g ∙ s.1)
 
-    pub below_hexagon : f ≡ false → p ≡ rank f xs
+    below_hexagon : f ≡ false → p ≡ rank f xs
     below_hexagon g = let b = rw g at back in rw g (reads (rank false xs) b.1 (ap octal (sym b.0)))
 
     module _ (g : f ≡ true) where
       b : Back true n own m
       b = rw g at back
 
-      pub record Taken (j : ℕ) : Type 0 where
-        pub few : j ≤ 15
-        pub long : (66 - count_leading_zeros 64 v) / 3 ≡ j
-        pub sum : p ≡ rank f xs + ones j
+      record Taken (j : ℕ) : Type 0 where
+        few : j ≤ 15
+        long : (66 - count_leading_zeros 64 v) / 3 ≡ j
+        sum : p ≡ rank f xs + ones j
 
       taken_at : (j : ℕ) → j ≤ m → Led (rank true xs) j → Taken j
       taken_at j h w =
@@ -79,25 +94,20 @@ module _ (n own m x u v : ℕ) (f : Bool) (h64 : n < 2 ^ 64) (ok : Valid n) (e :
           let l : 7 ^ j ≤ 7 ^ m = pow-le-pow_right (omega arith) h in
           let o : octal xs ≡ octal (below true m r) = ap octal (sym b.0) in
           let s : p ≡ r + ones j = reads (r + ones j) (omega (arith, led_most r j w)) (o ∙ ap octal (shifted m r j w)) in
-          record { few = omega arith; long = rw (word ∙ o) (led_long m r j h (omega arith) w); sum = rw g s }
+          record { few = omega arith; long = rw (digits ∙ o) (led_long m r j h (omega arith) w); sum = rw g s }
 
       taken : (j : ℕ) × Taken j
       taken = let w = led m (rank true xs) b.1 in (w.0, taken_at w.0 w.1 w.2)
 
-      pub zeros_few : (count_leading_zeros 64 v ≤ 64) × ((66 - count_leading_zeros 64 v) / 3 ≤ 15)
-      zeros_few = let t = taken.1 in (leading_le 64 v, omega (arith, t.few, t.long))
+    ranked : Ranked f v p (rank f xs)
+    ranked = record {
+      hexagon = below_hexagon;
+      few = λ g. let t = (taken g).1 in omega (arith, t.few, t.long);
+      pentagon = λ g s es.
+          let t = taken g in
+          let z : (s - 1) / 6 ≡ ones t.0 = rw (es, t.1.long) (ones_six t.0) in
+          (omega (arith, z, t.1.sum), omega (arith, z, t.1.sum));
+    }
 
-      pub below_pentagon : (s : ℕ) → s ≡ 7 ^ ((66 - count_leading_zeros 64 v) / 3) → ((s - 1) / 6 ≤ p) × (p - (s - 1) / 6 ≡ rank f xs)
-      below_pentagon s es =
-          let t = taken.1 in
-          let z : (s - 1) / 6 ≡ ones taken.0 = rw (es, t.long) (ones_six taken.0) in
-          (omega (arith, z, t.sum), omega (arith, z, t.sum))
-
--- what `rank_of` asks, in the words of its callers
-pub asked : (y k own own' target target' a : ℕ) (f : Bool) → Valid y → k ≡ y → own' ≡ own → own ≤ target → target ≡ target' → target' ≡ res_of y → a ≡ ancestor_of y own' → f ≡ pentagon a →
-    Valid k × (own + (target - own) ≡ res_of k) × (f ≡ pentagon (ancestor_of k own))
-asked y k own own' target target' a f ok ek eo l et et' ea ef =
-    (subst Valid (sym ek) ok, long ∙ et ∙ et' ∙ ap res_of (sym ek), ef ∙ ap pentagon (ea ∙ ap (ancestor_of y) eo ∙ ap (λ (z : ℕ). ancestor_of z own) (sym ek)))
-  where
-    long : own + (target - own) ≡ target
-    long = omega arith
+  pub word : Word f v (rank f (seg n own (res_of n - own)))
+  word = record { short = short; ranked = λ p ep. subst (λ (k : ℕ). Ranked f v p (rank f (seg n own (k - own)))) e (ranked p ep) }

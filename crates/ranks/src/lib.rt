@@ -3,4 +3,4 @@
 
 mod rank;
 
-pub use rank::{Found, child_at, position, rank_of};
+pub use rank::{child_at, position, rank_of};

@@ -1,41 +1,28 @@
 // Child at position, and position of child.
-ghost use Rattle.std.specs.Prelude.{◌≡◌, false, ℕ, ◌+◌, ◌-◌, ◌*◌, ◌^◌, ◌≤◌, ◌<◌};
-ghost use Rattle.index.specs.Layout.{Valid, res_of};
+ghost use Rattle.std.specs.Prelude.{◌≡◌, false, ℕ, ◌-◌, ◌^◌, ◌≤◌, ◌<◌};
+ghost use Rattle.index.specs.Layout.{res_of};
 ghost use Rattle.index.specs.View.{octal};
 ghost use Rattle.index.specs.Ancestor.{ancestor_of};
+ghost use Rattle.index.specs.Told.{told};
 ghost use Rattle.descent.specs.Descendants.{pentagon, count, count_of};
 ghost use Rattle.descent.specs.Positions.{below, child_at, rank as rankOf, seg, found_of};
-ghost use Rattle.ranks.specs.Told.{found_told};
 
-use descent::{get_starting_state, sevens};
-use index::inside::{
-    ancestor, cell, is_pentagon, number_of, place, resolution, resolution_number, resolution_of,
-};
-use index::{Cell, Resolution};
-
-// A position of a second cell below a first.
-#[derive(Clone, Copy)]
-pub enum Found {
-    At(u64),
-    NotUnder,
-}
+use descent::{Descent, sevens};
+use index::{Cell, Refusal, Resolution};
 
 // The position p counted with the deleted ones: that of the same digits below a hexagon.
 fn with_deleted(pent: bool, m: u64, p: u64) -> u64
     requires { (m ≤ 15) × (p < count pent m) }
     ensures { (octal (below pent m p) ≡ octal (below false 16 result)) × (result < 7 ^ 16) }
 {
-    if pent {
-        if p == 0 {
-            return 0;
-        }
-        let mut deleted = (sevens(m) - 1) / 6;
-        while p <= 5 * (deleted / 7) {
-            deleted /= 7;
-        }
-        return p + deleted;
+    if !pent || p == 0 {
+        return p;
     }
-    p
+    let mut deleted = (sevens(m) - 1) / 6;
+    while p <= 5 * (deleted / 7) {
+        deleted /= 7;
+    }
+    p + deleted
 }
 
 // A position below a hexagon as sixteen digits with eight as their base: fields of eight, four and two digits are split, the upper half of
@@ -55,15 +42,12 @@ fn in_eights(p: u64) -> u64
     v3 + e3 + o3 * 64
 }
 
-pub fn child_at(c: Cell, t: Resolution, p: u64) -> Cell
-    requires { Valid c.0 × (res_of c.0 ≤ t.0) × (t.0 ≤ 15) × (p < count_of c.0 t.0) }
-    ensures { (result.0 ≡ child_at c.0 t.0 p) × Valid result.0 }
+pub fn child_at(d: Descent, p: u64) -> Cell
+    requires { p < count_of d.cell d.target }
+    ensures { result ≡ child_at d.cell d.target p }
 {
-    let own = resolution_number(resolution_of(c));
-    let target = resolution_number(t);
-    let q = with_deleted(is_pentagon(c), target - own, p);
-    let digits = in_eights(q);
-    cell(get_starting_state(c, t) + place(t) * digits)
+    let q = with_deleted(d.cell().is_pentagon(), d.steps(), p);
+    Cell::new_unchecked(d.first() + d.target().place() * in_eights(q))
 }
 
 // Sixteen digits with eight as their base, read with seven as the base: pairs of fields are joined, four times.
@@ -80,12 +64,15 @@ fn in_sevens(v: u64) -> u64
     v3 % 0x100_0000 + 5764801 * (v3 >> 24)
 }
 
-// The position of the digits own + 1 to own + m of n, below a pentagon less what the deleted positions take.
-pub fn rank_of(pent: bool, n: u64, own: u64, m: u64) -> u64
-    requires { Valid n × (own + m ≡ res_of n) × (pent ≡ pentagon (ancestor_of n own)) }
-    ensures { result ≡ rankOf pent (seg n own m) }
+// The position of y below its ancestor of resolution `own`; below a pentagon less what the deleted positions take.
+pub fn rank_of(pent: bool, y: Cell, own: Resolution) -> u64
+    requires coarse { own ≤ res_of y }
+    requires owner { pent ≡ pentagon (ancestor_of y own) }
+    ensures { result ≡ rankOf pent (seg y own (res_of y - own)) }
 {
-    let v = (n >> (3 * (15 - (own + m)))) % place(resolution(15 - m));
+    let fine = y.resolution().number();
+    let m = fine - own.number();
+    let v = (y.number() >> (3 * (15 - fine))) % Resolution::new_unchecked(15 - m).place();
     let p = in_sevens(v);
     if pent {
         let z = u64::leading_zeros(v) as u64;
@@ -96,19 +83,13 @@ pub fn rank_of(pent: bool, n: u64, own: u64, m: u64) -> u64
 }
 
 // The position of y below c.
-pub fn position(c: Cell, y: Cell) -> Found
-    requires { Valid c.0 × Valid y.0 }
-    ensures { found_told result ≡ found_of c.0 y.0 }
+#[tactic(auto, unfolding(index::specs::Refusals::judged))]
+pub fn position(c: Cell, y: Cell) -> Result<u64, Refusal>
+    ensures { told result ≡ found_of c y }
 {
-    let coarse = resolution_of(c);
-    let own = resolution_number(coarse);
-    let fine = resolution_number(resolution_of(y));
-    if fine < own {
-        return Found::NotUnder;
+    let own = c.resolution();
+    if y.resolution() < own || y.ancestor(own) != c {
+        return Err(Refusal::NotUnder);
     }
-    let a = number_of(ancestor(y, coarse));
-    if a != number_of(c) {
-        return Found::NotUnder;
-    }
-    Found::At(rank_of(is_pentagon(c), number_of(y), own, fine - own))
+    Ok(rank_of(c.is_pentagon(), y, own))
 }

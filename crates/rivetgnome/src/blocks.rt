@@ -5,7 +5,7 @@ ghost use Rattle.block_entries.specs.Blocks.{block_of, values_after, refusals_af
 ghost use Rattle.cell_entries.specs.Cells.{position_of, ancestor_of};
 ghost use Rattle.outward.specs.Exports.{number_out};
 
-use outward::{RgNumber, number_out};
+use outward::RgNumber;
 
 #[unsafe(no_mangle)]
 pub extern "C" fn rg_check_block(
@@ -15,7 +15,7 @@ pub extern "C" fn rg_check_block(
 ) -> RgNumber
     ensures { (result ≡ number_out (block_of cells.now values.old refusals.old)) × (values.new ≡ values_after check_of cells.now values.old refusals.old) × (refusals.new ≡ refusals_after check_of cells.now values.old refusals.old) }
 {
-    number_out(hexagons::check_block(cells, values, refusals))
+    hexagons::check_block(cells, values, refusals).into()
 }
 
 #[unsafe(no_mangle)]
@@ -27,7 +27,7 @@ pub extern "C" fn rg_ancestor_block(
 ) -> RgNumber
     ensures { (result ≡ number_out (block_of cells.now values.old refusals.old)) × (values.new ≡ values_after (λ raw. ancestor_of raw resolution) cells.now values.old refusals.old) × (refusals.new ≡ refusals_after (λ raw. ancestor_of raw resolution) cells.now values.old refusals.old) }
 {
-    number_out(hexagons::ancestor_block(cells, resolution, values, refusals))
+    hexagons::ancestor_block(cells, resolution, values, refusals).into()
 }
 
 #[unsafe(no_mangle)]
@@ -39,5 +39,5 @@ pub extern "C" fn rg_position_block(
 ) -> RgNumber
     ensures { (result ≡ number_out (block_of seconds.now values.old refusals.old)) × (values.new ≡ values_after (position_of first) seconds.now values.old refusals.old) × (refusals.new ≡ refusals_after (position_of first) seconds.now values.old refusals.old) }
 {
-    number_out(hexagons::position_block(first, seconds, values, refusals))
+    hexagons::position_block(first, seconds, values, refusals).into()
 }

@@ -5,7 +5,8 @@ ghost use Rattle.cell_entries.specs.Cells.{cursor_of};
 ghost use Rattle.outward.specs.Exports.{number_out};
 ghost use Rattle.outward.specs.CursorWords.{cursor_of_words, started_words, next_number, next_words};
 
-use outward::{Read, RgChecked, RgNumber, cursor_in, given_out, started_out};
+use hexagons::Refusal;
+use outward::{RgChecked, RgNumber, cursor_in, given_out, started_out};
 
 #[unsafe(no_mangle)]
 pub extern "C" fn rg_cursor(cell: u64, target: u32, out: &mut [u64; 5]) -> RgChecked
@@ -18,13 +19,8 @@ pub extern "C" fn rg_cursor(cell: u64, target: u32, out: &mut [u64; 5]) -> RgChe
 pub extern "C" fn rg_next(cursor: &mut [u64; 5]) -> RgNumber
     ensures { (result ≡ number_out (next_number (cursor_of_words cursor.old))) × (cursor.new ≡ next_words cursor.old (cursor_of_words cursor.old)) }
 {
-    let a = cursor_in(cursor[0], cursor[1], cursor[2], cursor[3], cursor[4]);
-    let Read::At(c) = a else {
-        return RgNumber {
-            refusal: 11,
-            zero: 0,
-            value: 0,
-        };
+    let Some(c) = cursor_in(*cursor) else {
+        return Err::<u64, _>(Refusal::Position).into();
     };
     given_out(hexagons::next(c), cursor)
 }

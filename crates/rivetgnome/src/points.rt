@@ -6,130 +6,130 @@ ghost use Rattle.point_entries.specs.Points.{unit_of, direction_turn_of, normali
 ghost use Rattle.outward.specs.Exports.{number_out, truth_out, point_out, pair_out};
 
 use hexagons::{IJ, IJK};
-use outward::{RgNumber, RgPair, RgPoint, number_out, pair_out, point_out, truth_out};
+use outward::{RgNumber, RgPair, RgPoint};
 
 #[unsafe(no_mangle)]
 pub extern "C" fn rg_unit(direction: u32) -> RgPoint
     ensures { result ≡ point_out (unit_of direction) }
 {
-    point_out(hexagons::unit(direction))
+    hexagons::unit(direction).into()
 }
 
 #[unsafe(no_mangle)]
 pub extern "C" fn rg_direction_turn_ccw(direction: u32, count: u32) -> RgNumber
     ensures { result ≡ number_out (direction_turn_of true direction count) }
 {
-    number_out(hexagons::direction_turn_ccw(direction, count))
+    hexagons::direction_turn(direction, count, true).into()
 }
 
 #[unsafe(no_mangle)]
 pub extern "C" fn rg_direction_turn_cw(direction: u32, count: u32) -> RgNumber
     ensures { result ≡ number_out (direction_turn_of false direction count) }
 {
-    number_out(hexagons::direction_turn_cw(direction, count))
+    hexagons::direction_turn(direction, count, false).into()
 }
 
 #[unsafe(no_mangle)]
 pub extern "C" fn rg_normalise(i: i32, j: i32, k: i32) -> RgPoint
     ensures { result ≡ point_out (normalise_of (triple i j k)) }
 {
-    point_out(hexagons::normalise(IJK { i, j, k }))
+    hexagons::normalise(IJK { i, j, k }).into()
 }
 
 #[unsafe(no_mangle)]
 pub extern "C" fn rg_neighbour(i: i32, j: i32, k: i32, direction: u32) -> RgPoint
     ensures { result ≡ point_out (neighbour_of (triple i j k) direction) }
 {
-    point_out(hexagons::neighbour(IJK { i, j, k }, direction))
+    hexagons::neighbour(IJK { i, j, k }, direction).into()
 }
 
 #[unsafe(no_mangle)]
 pub extern "C" fn rg_same_point(i: i32, j: i32, k: i32, l: i32, m: i32, n: i32) -> RgNumber
     ensures { result ≡ truth_out (same_of (triple i j k) (triple l m n)) }
 {
-    truth_out(hexagons::same_point(IJK { i, j, k }, IJK { i: l, j: m, k: n }))
+    hexagons::same_point(IJK { i, j, k }, IJK { i: l, j: m, k: n }).into()
 }
 
 #[unsafe(no_mangle)]
 pub extern "C" fn rg_distance(i: i32, j: i32, k: i32, l: i32, m: i32, n: i32) -> RgNumber
     ensures { result ≡ number_out (distance_of (triple i j k) (triple l m n)) }
 {
-    number_out(hexagons::distance(IJK { i, j, k }, IJK { i: l, j: m, k: n }))
+    hexagons::distance(IJK { i, j, k }, IJK { i: l, j: m, k: n }).into()
 }
 
 #[unsafe(no_mangle)]
 pub extern "C" fn rg_to_ij(i: i32, j: i32, k: i32) -> RgPair
     ensures { result ≡ pair_out (to_ij_of (triple i j k)) }
 {
-    pair_out(hexagons::to_ij(IJK { i, j, k }))
+    hexagons::to_ij(IJK { i, j, k }).into()
 }
 
 #[unsafe(no_mangle)]
 pub extern "C" fn rg_from_ij(i: i32, j: i32) -> RgPoint
     ensures { result ≡ point_out (from_ij_of (pair i j)) }
 {
-    point_out(hexagons::from_ij(IJ { i, j }))
+    hexagons::from_ij(IJ { i, j }).into()
 }
 
 #[unsafe(no_mangle)]
 pub extern "C" fn rg_down7_ccw(i: i32, j: i32, k: i32) -> RgPoint
     ensures { result ≡ point_out (down7_of true (triple i j k)) }
 {
-    point_out(hexagons::down7_ccw(IJK { i, j, k }))
+    hexagons::down7(IJK { i, j, k }, true).into()
 }
 
 #[unsafe(no_mangle)]
 pub extern "C" fn rg_down7_cw(i: i32, j: i32, k: i32) -> RgPoint
     ensures { result ≡ point_out (down7_of false (triple i j k)) }
 {
-    point_out(hexagons::down7_cw(IJK { i, j, k }))
+    hexagons::down7(IJK { i, j, k }, false).into()
 }
 
 #[unsafe(no_mangle)]
 pub extern "C" fn rg_down3_ccw(i: i32, j: i32, k: i32) -> RgPoint
     ensures { result ≡ point_out (down3_of true (triple i j k)) }
 {
-    point_out(hexagons::down3_ccw(IJK { i, j, k }))
+    hexagons::down3(IJK { i, j, k }, true).into()
 }
 
 #[unsafe(no_mangle)]
 pub extern "C" fn rg_down3_cw(i: i32, j: i32, k: i32) -> RgPoint
     ensures { result ≡ point_out (down3_of false (triple i j k)) }
 {
-    point_out(hexagons::down3_cw(IJK { i, j, k }))
+    hexagons::down3(IJK { i, j, k }, false).into()
 }
 
 #[unsafe(no_mangle)]
 pub extern "C" fn rg_point_turn_ccw(i: i32, j: i32, k: i32) -> RgPoint
     ensures { result ≡ point_out (point_turn_of true (triple i j k)) }
 {
-    point_out(hexagons::point_turn_ccw(IJK { i, j, k }))
+    hexagons::point_turn(IJK { i, j, k }, true).into()
 }
 
 #[unsafe(no_mangle)]
 pub extern "C" fn rg_point_turn_cw(i: i32, j: i32, k: i32) -> RgPoint
     ensures { result ≡ point_out (point_turn_of false (triple i j k)) }
 {
-    point_out(hexagons::point_turn_cw(IJK { i, j, k }))
+    hexagons::point_turn(IJK { i, j, k }, false).into()
 }
 
 #[unsafe(no_mangle)]
 pub extern "C" fn rg_up7_ccw(i: i32, j: i32, k: i32) -> RgPoint
     ensures { result ≡ point_out (up7_of true (triple i j k)) }
 {
-    point_out(hexagons::up7_ccw(IJK { i, j, k }))
+    hexagons::up7(IJK { i, j, k }, true).into()
 }
 
 #[unsafe(no_mangle)]
 pub extern "C" fn rg_up7_cw(i: i32, j: i32, k: i32) -> RgPoint
     ensures { result ≡ point_out (up7_of false (triple i j k)) }
 {
-    point_out(hexagons::up7_cw(IJK { i, j, k }))
+    hexagons::up7(IJK { i, j, k }, false).into()
 }
 
 #[unsafe(no_mangle)]
 pub extern "C" fn rg_direction_of(i: i32, j: i32, k: i32) -> RgNumber
     ensures { result ≡ number_out (direction_of_point (triple i j k)) }
 {
-    number_out(hexagons::direction_of(IJK { i, j, k }))
+    hexagons::direction_of(IJK { i, j, k }).into()
 }

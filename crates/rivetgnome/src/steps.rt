@@ -6,57 +6,55 @@ ghost use Rattle.rivetgnome.specs.Steps.{ReadsBackOut};
 ghost use Rattle.plane.specs.Directions.{triple};
 
 use hexagons::IJK;
-use outward::{
-    RgNumber, RgPoint, RgStepped, RgWalked, number_out, point_out, stepped_out, walked_out,
-};
+use outward::{RgNumber, RgPoint, RgStepped, RgWalked, stepped_out};
 
 #[unsafe(no_mangle)]
 pub extern "C" fn rg_turn_ccw(cell: u64, count: u32) -> RgNumber
     ensures { result ≡ number_out (turn_of true cell count) }
 {
-    number_out(hexagons::turn_ccw(cell, count))
+    hexagons::turn(cell, count, true).into()
 }
 
 #[unsafe(no_mangle)]
 pub extern "C" fn rg_turn_cw(cell: u64, count: u32) -> RgNumber
     ensures { result ≡ number_out (turn_of false cell count) }
 {
-    number_out(hexagons::turn_cw(cell, count))
+    hexagons::turn(cell, count, false).into()
 }
 
 #[unsafe(no_mangle)]
 pub extern "C" fn rg_pentagon_turn_ccw(cell: u64) -> RgNumber
     ensures { result ≡ number_out (pentagon_turn_of true cell) }
 {
-    number_out(hexagons::pentagon_turn_ccw(cell))
+    hexagons::pentagon_turn(cell, true).into()
 }
 
 #[unsafe(no_mangle)]
 pub extern "C" fn rg_pentagon_turn_cw(cell: u64) -> RgNumber
     ensures { result ≡ number_out (pentagon_turn_of false cell) }
 {
-    number_out(hexagons::pentagon_turn_cw(cell))
+    hexagons::pentagon_turn(cell, false).into()
 }
 
 #[unsafe(no_mangle)]
 pub extern "C" fn rg_centre(cell: u64) -> RgPoint
     ensures { result ≡ point_out (centre_of cell) }
 {
-    point_out(hexagons::centre(cell))
+    hexagons::centre(cell).into()
 }
 
 #[unsafe(no_mangle)]
 pub extern "C" fn rg_read_back(length: u32, i: i32, j: i32, k: i32) -> RgNumber
     ensures { ReadsBackOut length (triple i j k) result }
 {
-    number_out(hexagons::read_back(length, IJK { i, j, k }))
+    hexagons::read_back(length, IJK { i, j, k }).into()
 }
 
 #[unsafe(no_mangle)]
 pub extern "C" fn rg_walk(cell: u64, direction: u32) -> RgWalked
     ensures { result ≡ walked_out (walk_of cell direction) }
 {
-    walked_out(hexagons::walk(cell, direction))
+    hexagons::walk(cell, direction).into()
 }
 
 #[unsafe(no_mangle)]

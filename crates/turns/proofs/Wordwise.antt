@@ -3,19 +3,19 @@ use mathlib.Core.Path.{◌≡◌, refl, sym, ap, ap₂, ◌∙◌}
 use mathlib.Core.Bool.{Bool, true, false, cond}
 use mathlib.Core.List.{◌∷◌, map}
 use Prim.Native.Nat.{ℕ, zero, suc, ◌+◌, ◌-◌, ◌*◌, ◌/◌, ◌%◌, ◌^◌, ◌≤◌, ◌<◌}
-use native.Mathlib.Nat.{mod-lt, zero-div, lt_of_le_of_lt, div-add-mod', mul-le-mul_right}
+use native.Mathlib.Nat.{div-one, mod-lt, mod-eq_of_lt, zero-div, lt_of_le_of_lt, div-add-mod', mul-le-mul_right}
 use native.Mathlib.Omega.{arith}
 use lib.Arith.{digits_div}
 use lib.Bits.{bit_and, bit_or, bit_xor, and_le_r, and_mod, or_lt, xor_lt}
 use lib.Pow.{pow_pos}
 use lib.Dec.{T, eqb, ltb, ltb→lt}
 use Rattle.plane.specs.Directions.{turns}
-use Rattle.plane.proofs.Every.{every, at, at_eq}
+use Rattle.plane.proofs.Every.{every, at, at_eq, at_lt}
 use Rattle.index.specs.Layout.{digit, res_of}
 use Rattle.index.specs.View.{used}
 use Rattle.index.specs.Written.{WithDigits}
 use Rattle.index.specs.Words.{Each}
-use Rattle.turns.specs.Moves.{down, up, flip}
+use Rattle.turns.specs.Moves.{round, flip}
 use Rattle.index.proofs.First.{digit_low}
 use Rattle.index.proofs.Digitwise.{and8, or8, xor8, shr_swap, mask_at, window}
 
@@ -46,25 +46,34 @@ masked x m c v t f r l u =
     let o = over (bit_and x m) c (2 ^ p) (pow_pos p) (lt_of_le_of_lt (mul-le-mul_right c a) h) in
     rw (o, times (bit_and x m / 2 ^ p) c, and8 x m p, mask_at m v t r l u)
 
-pub moved_down : (x : ℕ) → Each down x (bit_or (bit_and (x / 2 ^ 1) 15079016609499) (bit_and x 5026338869833 * 4))
-moved_down x =
-    record {
-      short = or_lt 45 _ _ (lt_of_le_of_lt (and_le_r (x / 2 ^ 1) 15079016609499) (omega arith)) (omega (arith, and_le_r x 5026338869833));
-      each = λ r l u.
-          let p : ℕ = 3 * (15 - r) in
-          rw (or8 (bit_and (x / 2 ^ 1) 15079016609499) (bit_and x 5026338869833 * 4) p, and8 (x / 2 ^ 1) 15079016609499 p, mask_at 15079016609499 3 tt r l u, shr_swap x 1 p, masked x 5026338869833 4 1 tt tt r l u)
-          (window (λ (a b c : ℕ). bit_or (bit_and b 3) (bit_and a 1 * 4 % 8)) down tt (x / 2 ^ p));
-    }
+-- the k low bits of each digit
+abbrev pub lows : ℕ → ℕ
+lows k = 5026338869833 * (2 ^ k - 1)
 
-pub moved_up : (x : ℕ) → Each up x (bit_or (bit_and x 15079016609499 * 2) (bit_and (x / 2 ^ 2) 5026338869833))
-moved_up x =
-    record {
-      short = or_lt 45 (bit_and x 15079016609499 * 2) _ (omega (arith, and_le_r x 15079016609499)) (lt_of_le_of_lt (and_le_r (x / 2 ^ 2) 5026338869833) (omega arith));
-      each = λ r l u.
+lows_at : (k : ℕ) → k ≤ 3 → T (every 15 (λ i. eqb (lows k / 2 ^ (3 * i) % 8) (2 ^ k - 1)))
+lows_at k h = at 4 (λ (k : ℕ). every 15 (λ i. eqb (lows k / 2 ^ (3 * i) % 8) (2 ^ k - 1))) tt k (omega arith)
+
+-- no bit of a digit leaves it
+moved_bits : (k : ℕ) → k ≤ 2 → (y : ℕ) → bit_or (bit_and (y / 2 ^ k % 8) (2 ^ (3 - k) - 1)) (bit_and (y % 8) (2 ^ k - 1) * 2 ^ (3 - k) % 8) ≡ round k (y % 8)
+moved_bits zero h y = rw (div-one y) (window (λ (a b c : ℕ). bit_or (bit_and a 7) (bit_and a 0 * 8 % 8)) (round 0) tt y)
+moved_bits (suc zero) h y = window (λ (a b c : ℕ). bit_or (bit_and b 3) (bit_and a 1 * 4 % 8)) (round 1) tt y
+moved_bits (suc (suc zero)) h y = window (λ (a b c : ℕ). bit_or (bit_and c 1) (bit_and a 3 * 2 % 8)) (round 2) tt y
+moved_bits (suc (suc (suc k))) h y = absurd (omega arith)
+
+pub moved : (k x a b : ℕ) → k ≤ 2 → a ≡ lows (3 - k) → b ≡ lows k → Each (round k) x (bit_or (bit_and (x / 2 ^ k) a) (bit_and x b * 2 ^ (3 - k) % 2 ^ 64))
+moved k x a b h ea eb =
+    let left : ℕ = bit_and x (lows k) * 2 ^ (3 - k) in
+    let l : left < 2 ^ 45 = lt_of_le_of_lt (mul-le-mul_right (2 ^ (3 - k)) (and_le_r x (lows k))) (at_lt 3 (2 ^ 45) (λ (k : ℕ). lows k * 2 ^ (3 - k)) tt k (omega arith)) in
+    let e : left % 2 ^ 64 ≡ left = mod-eq_of_lt (omega arith) in
+    rw (ea, eb, e)
+    (record {
+      short = or_lt 45 _ left (lt_of_le_of_lt (and_le_r (x / 2 ^ k) (lows (3 - k))) (at_lt 4 (2 ^ 45) lows tt (3 - k) (omega arith))) l;
+      each = λ r g u.
           let p : ℕ = 3 * (15 - r) in
-          rw (or8 (bit_and x 15079016609499 * 2) (bit_and (x / 2 ^ 2) 5026338869833) p, and8 (x / 2 ^ 2) 5026338869833 p, mask_at 5026338869833 1 tt r l u, shr_swap x 2 p, masked x 15079016609499 2 3 tt tt r l u)
-          (window (λ (a b c : ℕ). bit_or (bit_and a 3 * 2 % 8) (bit_and c 1)) up tt (x / 2 ^ p));
-    }
+          let s = masked x (lows k) (2 ^ (3 - k)) (2 ^ k - 1) (lows_at k (omega arith)) (at 3 (λ (k : ℕ). every 15 (λ i. ltb (lows k % 2 ^ (3 * i) * 2 ^ (3 - k)) (2 ^ (3 * i)))) tt k (omega arith)) r g u in
+          rw (or8 (bit_and (x / 2 ^ k) (lows (3 - k))) left p, and8 (x / 2 ^ k) (lows (3 - k)) p, mask_at (lows (3 - k)) (2 ^ (3 - k) - 1) (lows_at (3 - k) (omega arith)) r g u, shr_swap x k p, s)
+          (moved_bits k h (x / 2 ^ p));
+    })
 
 abbrev pub differ : ℕ → ℕ
 differ x = bit_or (bit_xor x (x / 2 ^ 1)) (bit_xor x (x / 2 ^ 2))
@@ -81,9 +90,6 @@ flipped x =
 
 -- words put together
 module _ (x : ℕ) where
-  self : x < 2 ^ 45 → Each (λ d. d) x x
-  self h = record { short = h; each = λ r l u. refl }
-
   none : Each (λ d. 0) x 0
   none = record { short = omega arith; each = λ r l u. rw (zero-div (2 ^ (3 * (15 - r)))) }
 
@@ -99,20 +105,18 @@ module _ (x : ℕ) where
   alike f g y e p = record { short = p.short; each = λ r l u. p.each r l u ∙ e (digit x r) (mod-lt _ (omega arith)) }
 
 -- one digit: six counts and the count 6, eight values
-one_digit : (c d : ℕ) → c < 7 → d < 8 → bit_xor (cond (eqb (c % 3) 0) d (cond (eqb (c % 3) 1) (up d) (down d))) (cond (eqb (c % 2) 1) (flip d) 0) ≡ turns true c d
+one_digit : (c d : ℕ) → c < 7 → d < 8 → bit_xor (round (2 * c % 3) d) (cond (eqb (c % 2) 1) (flip d) 0) ≡ turns true c d
 one_digit c d h l =
     at_eq 8 (word c) (turns true c) (at 7 (λ (c : ℕ). every 8 (λ d. eqb (word c d) (turns true c d))) tt c h) d l
   where
     word : ℕ → ℕ → ℕ
-    word c d = bit_xor (cond (eqb (c % 3) 0) d (cond (eqb (c % 3) 1) (up d) (down d))) (cond (eqb (c % 2) 1) (flip d) 0)
+    word c d = bit_xor (round (2 * c % 3) d) (cond (eqb (c % 2) 1) (flip d) 0)
 
 -- in the words of the calls
-pub word_turned : (x c a b m e f g : ℕ) → x < 2 ^ 45 → c ≤ 6 → Each up x a → Each down x b → m ≡ cond (eqb (c % 3) 1) a b → e ≡ cond (eqb (c % 3) 0) x m → Each flip x f → g ≡ cond (eqb (c % 2) 1) f 0 →
-    Each (turns true c) x (bit_xor e g)
-word_turned x c a b m e f g h l pa pb em ee pf eg =
-    let low : Each (λ d. cond (eqb (c % 3) 0) d (cond (eqb (c % 3) 1) (up d) (down d))) x (cond (eqb (c % 3) 0) x (cond (eqb (c % 3) 1) a b)) = either x _ _ (eqb (c % 3) 0) x _ (self x h) (either x up down (eqb (c % 3) 1) a b pa pb) in
-    let odd : Each (λ d. cond (eqb (c % 2) 1) (flip d) 0) x (cond (eqb (c % 2) 1) f 0) = either x flip _ (eqb (c % 2) 1) f 0 pf (none x) in
-    rw (ee, em, eg) (alike x _ _ _ (λ d g. one_digit c d (omega arith) g) (changed x _ _ _ _ low odd))
+pub word_turned : (x c m f g : ℕ) → c ≤ 6 → Each (round (2 * c % 3)) x m → Each flip x f → g ≡ cond (eqb (c % 2) 1) f 0 → Each (turns true c) x (bit_xor m g)
+word_turned x c m f g l p q e =
+    let odd : Each (λ d. cond (eqb (c % 2) 1) (flip d) 0) x (cond (eqb (c % 2) 1) f 0) = either x flip _ (eqb (c % 2) 1) f 0 q (none x) in
+    rw e (alike x _ _ _ (λ d h. one_digit c d (omega arith) h) (changed x _ _ _ _ p odd))
 
 -- clockwise turns are the others of six
 pub sense : (o : Bool) (k c : ℕ) (x y : ℕ) → k ≤ 5 → c ≡ cond o k (6 - k) → Each (turns true c) x y → Each (turns o k) x y

@@ -1,14 +1,14 @@
 // The digit walk (grid/algo.rs).
-ghost use Rattle.std.specs.Prelude.{◌≡◌, cond, ◌<◌};
-ghost use Rattle.index.specs.Layout.{Valid};
+ghost use Rattle.std.specs.Prelude.{◌≡◌};
+ghost use Rattle.walks.specs.Tables.{new_digit, adjustment};
 ghost use Rattle.walks.specs.Walks.{walked_of, carry_of};
 
-use index::{Cell, inside};
-use plane::direction;
+use index::inside::{get_direction, set_direction};
+use index::{Cell, Digit, Resolution};
 use plane::direction::Direction;
 use plane::number::is_odd;
 
-const NEW_DIRECTION_II: [[u8; 7]; 7] = [
+static NEW_DIRECTION_II: [[u8; 7]; 7] = [
     [0, 1, 2, 3, 4, 5, 6],
     [1, 4, 3, 6, 5, 2, 0],
     [2, 3, 1, 4, 6, 0, 5],
@@ -18,7 +18,7 @@ const NEW_DIRECTION_II: [[u8; 7]; 7] = [
     [6, 0, 5, 2, 1, 4, 3],
 ];
 
-const NEW_ADJUSTMENT_II: [[u8; 7]; 7] = [
+static NEW_ADJUSTMENT_II: [[u8; 7]; 7] = [
     [0, 0, 0, 0, 0, 0, 0],
     [0, 1, 0, 1, 0, 5, 0],
     [0, 0, 2, 3, 0, 0, 2],
@@ -28,7 +28,7 @@ const NEW_ADJUSTMENT_II: [[u8; 7]; 7] = [
     [0, 0, 2, 0, 6, 0, 6],
 ];
 
-const NEW_DIRECTION_III: [[u8; 7]; 7] = [
+static NEW_DIRECTION_III: [[u8; 7]; 7] = [
     [0, 1, 2, 3, 4, 5, 6],
     [1, 2, 3, 4, 5, 6, 0],
     [2, 3, 4, 5, 6, 0, 1],
@@ -38,7 +38,7 @@ const NEW_DIRECTION_III: [[u8; 7]; 7] = [
     [6, 0, 1, 2, 3, 4, 5],
 ];
 
-const NEW_ADJUSTMENT_III: [[u8; 7]; 7] = [
+static NEW_ADJUSTMENT_III: [[u8; 7]; 7] = [
     [0, 0, 0, 0, 0, 0, 0],
     [0, 1, 0, 3, 0, 1, 0],
     [0, 0, 2, 2, 0, 0, 6],
@@ -48,15 +48,35 @@ const NEW_ADJUSTMENT_III: [[u8; 7]; 7] = [
     [0, 0, 6, 0, 4, 0, 6],
 ];
 
-// One of a pair of tables' entries.
-fn of_pair(at_odd: bool, two: u8, three: u8) -> u8
-    ensures { result ≡ cond at_odd two three }
+// The new digit where a direction meets an old one, and the direction that goes on upward.
+fn new_digit(o: bool, old: Digit, way: Direction) -> Digit
+    ensures { result ≡ new_digit o old way }
 {
-    if at_odd { two } else { three }
+    let a = old.number() as usize;
+    let b = way.value() as usize;
+    let new = if o {
+        NEW_DIRECTION_II[a][b]
+    } else {
+        NEW_DIRECTION_III[a][b]
+    };
+    Digit::new_unchecked(new as u64)
+}
+
+fn adjustment(o: bool, old: Digit, way: Direction) -> Direction
+    ensures { result ≡ adjustment o old way }
+{
+    let a = old.number() as usize;
+    let b = way.value() as usize;
+    let on = if o {
+        NEW_ADJUSTMENT_II[a][b]
+    } else {
+        NEW_ADJUSTMENT_III[a][b]
+    };
+    Direction::new_unchecked(on)
 }
 
 // The number with the new digits, and the carry: 0 if none.
-#[derive(Clone, Copy)]
+#[derive(Clone, Copy, Debug, PartialEq, Eq, Hash)]
 pub struct Walked {
     pub number: u64,
     pub carry: Direction,
@@ -64,32 +84,23 @@ pub struct Walked {
 
 // Digits change from the finest upward until the adjustment is 0.
 pub fn walk(c: Cell, d: Direction) -> Walked
-    requires { Valid c.0 × (d.0 < 7) }
-    ensures { (result.number ≡ walked_of c.0 d.0) × (result.carry.0 ≡ carry_of c.0 d.0) }
+    ensures { (result.number ≡ walked_of c d) × (result.carry ≡ carry_of c d) }
 {
-    let direction_ii = NEW_DIRECTION_II;
-    let direction_iii = NEW_DIRECTION_III;
-    let adjustment_ii = NEW_ADJUSTMENT_II;
-    let adjustment_iii = NEW_ADJUSTMENT_III;
-    let mut n = inside::number_of(c);
-    let mut r = inside::resolution_number(inside::resolution_of(c));
-    let mut way = direction::value(d);
-    while 0 < r {
-        if way == 0 {
+    let mut n = c.number();
+    let k = c.resolution().number();
+    let mut way = d;
+    for r in (1..=k).rev() {
+        if way.value() == 0 {
             break;
         }
-        let at = inside::resolution(r);
-        let old = inside::direction(n, at);
+        let at = Resolution::new_unchecked(r);
+        let old = Digit::new_unchecked(get_direction(n, at));
         let o = is_odd(r);
-        let a = old as usize;
-        let b = way as usize;
-        let new = of_pair(o, direction_ii[a][b], direction_iii[a][b]);
-        way = of_pair(o, adjustment_ii[a][b], adjustment_iii[a][b]);
-        n = inside::set_direction(n, at, inside::digit(new as u64));
-        r -= 1;
+        n = set_direction(n, at, new_digit(o, old, way));
+        way = adjustment(o, old, way);
     }
     Walked {
         number: n,
-        carry: direction::new_unchecked(way),
+        carry: way,
     }
 }

@@ -1,17 +1,5 @@
--- By the laws of `Fills`.
 use Rattle.index.specs.Check.{check_of}
-use Rattle.block_entries.proofs.Fills as fills
 use Rattle.block_entries.proofs.entries.check_block.Goals as goal
 
-pub returns-then-is_short : goal.returns-then-is_short
-returns-then-is_short c = fills.no_room check_of c.args.cells.now c.args.values.now c.args.refusals.now c.is_short.result _ c.is_short.ensures c.if-is_short.true c.refusal.ensures
-
-pub loop-i-init : goal.loop-i-init
-loop-i-init c = fills.begin check_of c.args.cells.now c.args.values.now c.args.refusals.now c.is_short.result c.is_short.ensures c.if-is_short.false
-
-pub loop-i-preserved : goal.loop-i-preserved
-loop-i-preserved c =
-    fills.again check_of c.args.cells.now c.args.values.now c.args.refusals.now _ _ _ c.loop-i.invariant _ _ _ c.loop-i-test.true c.kept-c.ensures c.value.ensures c.refusal-in-loop-i.ensures
-
 pub returns : goal.returns
-returns c = fills.end check_of c.args.cells.now c.args.values.now c.args.refusals.now _ _ _ c.loop-i.invariant c.loop-i-test.false
+returns c = c.each.ensures check_of (λ n r l p. p)

@@ -1,18 +1,7 @@
--- By the laws of `Finers`.
-use Rattle.std.proofs.Common.{ℕ, [], sym, ap, ap₂, ◌∙◌}
-use Rattle.index.specs.Refusals.{answered}
-use Rattle.index.proofs.Rules.{none_answered}
-use Rattle.children.specs.Cursors.{cursor_after}
-use Rattle.cell_entries.proofs.Finers.{ready, asked, refuse_wanted, past_finer}
+use Rattle.std.proofs.Common.{[]}
+use Rattle.entry.proofs.Judges.{hit_judge}
+use Rattle.cell_entries.specs.Cells.{finer_rules}
 use Rattle.cell_entries.proofs.entries.cursor.Goals as goal
 
-pub returns-in_default : goal.returns-in_default
-returns-in_default c = refuse_wanted c.args.raw c.args.target [] (cursor_after c.args.raw c.args.target 0) _ _ _ c.in_default.is c.finer-a.ensures c.refusal.ensures
-
-pub fresh-requires : goal.fresh-requires
-fresh-requires c = asked _ _ _ _ (ready c.args.raw c.args.target _ _ _ c.in-At.is c.finer-a.ensures)
-
-pub returns : goal.returns
-returns c =
-    let r = ready c.args.raw c.args.target _ _ _ c.in-At.is c.finer-a.ensures in
-    ap answered (c.fresh.ensures ∙ ap₂ (λ (n t : ℕ). cursor_after n t 0) r.cell r.target) ∙ sym (past_finer c.args.raw c.args.target [] _ r.clear ∙ none_answered _)
+pub returns-in_err-d : goal.returns-in_err-d
+returns-in_err-d c = hit_judge (finer_rules c.args.raw c.args.target) [] _ _ _ _ c.in_err-d.ensures c.from_residual.ensures.1

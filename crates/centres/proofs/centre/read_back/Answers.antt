@@ -1,6 +1,7 @@
 -- By the loop's laws in `Reading`.
-use Rattle.std.proofs.Common.{◌≡◌, ◌+◌, ◌-◌, ◌*◌, ◌^◌, ◌<◌, ◌≤◌, ℕ, Bool, true, false, arith, sym, ap, ◌∙◌, subst, subst₂}
+use Rattle.std.proofs.Common.{◌≡◌, ◌+◌, ◌-◌, ◌*◌, ◌^◌, ◌<◌, ◌≤◌, ℕ, Bool, true, false, Option, sym, ap, ◌∙◌, subst, arith}
 use lib.Dec.{T}
+use Rattle.std.specs.Bool.{then_some}
 use Rattle.plane.specs.Directions.{vec, unit}
 use Rattle.plane.specs.Points.{normal, Same, same, plus, down7, up7}
 use Rattle.plane.specs.Ranges.{Within}
@@ -10,64 +11,48 @@ use Rattle.plane.proofs.Normal.{normal_same, same_test}
 use Rattle.index.specs.Layout.{Valid}
 use Rattle.index.specs.Refusals.{answered, refused}
 use Rattle.index.specs.Written.{Written}
-use Rattle.centres.specs.Centres.{Reads}
-use Rattle.centres.proofs.Reading.{Sized, Reading, sized_normal, begun, onward, read, found, none, reads_same}
-use Rattle.centres.proofs.centre.read_back.Invariants.{Inv}
+use Rattle.centres.specs.Centres.{Reads, read_told}
+use Rattle.centres.proofs.Reading.{Reading, sized_normal, begun, onward, read, found, none, reads_same}
 use Rattle.centres.proofs.centre.read_back.Goals as goal
 
 -- in the words of the calls
-first : (l m k : ℕ) (p q : IJK) → l ≤ 15 → Within 100000000 p → m ≡ 2 ^ 59 + l * 2 ^ 52 + 0 * 2 ^ 45 + (2 ^ 45 - 1) → k ≡ l → q ≡ normal p → Inv m k q m k q
-first l m k p q h w em ek eq =
-    record {
-      begin = em ∙ ap (λ (x : ℕ). 2 ^ 59 + x * 2 ^ 52 + 0 * 2 ^ 45 + (2 ^ 45 - 1)) (sym ek);
-      top = subst (λ (x : ℕ). x ≤ 15) (sym ek) h;
-      reading = begun m k q (subst Sized (sym eq) (sized_normal p w));
-    }
+module _ (m k : ℕ) (p₀ p : IJK) (hk : k ≤ 15) (w : Within 100000000 p₀) (em : m ≡ 2 ^ 59 + k * 2 ^ 52 + 0 * 2 ^ 45 + (2 ^ 45 - 1)) (ep : p ≡ normal p₀) where
+  first : (r : ℕ) → r ≡ k → Reading m k p m r p
+  first r er = rw er (begun m k p (rw ep (sized_normal p₀ w)))
 
-next : (m k : ℕ) (p : IJK) (n r : ℕ) (q : IJK) → Inv m k p n r q → 0 < r → (o : Bool) (up : IJK) (d e x at z : ℕ) → o ≡ odd r → up ≡ up7 o q → d < 7 → Same q (plus (down7 o up) (unit d)) → e ≡ d → at ≡ r → x ≡ e → Written n at x z → Inv m k p z (r - 1) up
-next m k p n r q i g o up d e x at z eo eu hd s ee ea ex w =
-    let w' : Written n r d z = subst₂ (λ (a b : ℕ). Written n a b z) ea (ex ∙ ee) w in
-    let u : up ≡ up7 (odd r) q = eu ∙ ap (λ (b : Bool). up7 b q) eo in
-    let s' : Same q (plus (down7 (odd r) (up7 (odd r) q)) (unit d)) = subst (λ (t : IJK). Same q (plus (down7 (odd r) t) (unit d))) u (subst (λ (b : Bool). Same q (plus (down7 b up) (unit d))) eo s) in
-    record { begin = i.begin; top = i.top; reading = subst (Reading m k p z (r - 1)) (sym u) (onward m k p n r q d z i.top g i.reading hd s' w') }
+  module _ (n r : ℕ) (q : IJK) (i : Reading m k p n r q) where
+    next : (o : Bool) (up : IJK) (d x at z : ℕ) → 0 < r → o ≡ odd r → up ≡ up7 o q → d < 7 → Same q (plus (down7 o up) (unit d)) → at ≡ r → x ≡ d → Written n at x z → Reading m k p z (r - 1) up
+    next o up d x at z g eo eu hd s ea ex t = rw (eu, eo) (onward m k p n r q d z hk g i hd (rw (eu, eo) at s) (rw (ea, ex) at t))
 
-valid : (m k : ℕ) (p : IJK) (n r : ℕ) (q : IJK) → Inv m k p n r q → r ≡ 0 → n < 2 ^ 64 → Valid n
-valid m k p n r q i z h = (read m k i.top i.begin p n q h (subst (λ (x : ℕ). Reading m k p n x q) z i.reading)).1
+    module _ (er : r ≤ 0) (l : n < 2 ^ 64) where
+      ended : Reading m k p n 0 q
+      ended = let z : r ≡ 0 = omega arith in rw z at i
 
-module _ (l m k : ℕ) (p q₀ : IJK) (n r : ℕ) (q : IJK) (i : Inv m k q₀ n r q) (z : r ≡ 0) (ek : k ≡ l) (eq : q₀ ≡ normal p) (b : Bool) (eb : b ≡ same q (vec 0 0 0)) where
-  ended : Reading m k q₀ n 0 q
-  ended = subst (λ (x : ℕ). Reading m k q₀ n x q) z i.reading
+      valid : Valid n
+      valid = (read m k hk em p n q l ended).1
 
-  point : Same q₀ p
-  point = ap normal eq ∙ normal_same p
+      point : Same p p₀
+      point = ap normal ep ∙ normal_same p₀
 
-  hit : n < 2 ^ 64 → b ≡ true → Reads k q₀ (answered n)
-  hit h t = found m k i.top i.begin q₀ n q h ended ((same_test q (vec 0 0 0)).0 (subst T (sym (sym eb ∙ t)) tt))
-
-  told : (x : ℕ) → n < 2 ^ 64 → b ≡ true → x ≡ n → Reads l p (answered x)
-  told x h t e = subst (λ (y : ℕ). Reads l p (answered y)) (sym e) (subst (λ (y : ℕ). Reads y p (answered n)) ek (reads_same k q₀ p point (answered n) (hit h t)))
-
-  missed : b ≡ false → Reads l p (refused 15)
-  missed f =
-      subst (λ (y : ℕ). Reads y p (refused 15)) ek
-      (reads_same k q₀ p point (refused 15)
-      (none m k q₀ n q ended (λ s. subst T (sym eb ∙ f) ((same_test q (vec 0 0 0)).1 s))))
+      told : (t : Bool) (x : Option ℕ) (y : ℕ) → t ≡ same q (vec 0 0 0) → x ≡ then_some t y → y ≡ n → Reads k p₀ (read_told x)
+      told true x y et ex ey = rw (ex, ey) (reads_same k p p₀ point (answered n) (found m k hk em p n q l ended ((same_test q (vec 0 0 0)).0 (subst T et tt))))
+      told false x y et ex ey = rw ex (reads_same k p p₀ point (refused 15) (none m k p n q ended (λ s. subst T (sym et) ((same_test q (vec 0 0 0)).1 s))))
 
 pub loop-r-init : goal.loop-r-init
-loop-r-init c =
-    first _ _ _ c.args.p c.normalize-q.result c.requires.0 c.requires.1 c.unset-n.ensures c.resolution_number-r.ensures c.normalize-q.ensures
+loop-r-init c = first _ _ _ _ c.number-r.ensures.bound c.requires c.unset-n.ensures c.normalize-q.ensures _ c.number-r.ensures.value
 
 pub loop-r-preserved : goal.loop-r-preserved
 loop-r-preserved c =
-    next _ _ _ c.loop-r.n c.loop-r.r c.loop-r.q c.loop-r.invariant (omega arith) c.is_odd-o.result c.up_aperture7-up.result c.finest.result.0 _ _ _ _ c.is_odd-o.ensures c.up_aperture7-up.ensures c.finest.ensures.0 c.finest.ensures.1 c.value-d.ensures c.resolution.ensures c.digit.ensures c.set_direction-n.ensures
+    let l = c.loop-r in
+    next _ _ _ _ c.number-r.ensures.bound c.requires c.unset-n.ensures c.normalize-q.ensures l.n l.r l.q l.invariant
+    c.is_odd-o.result _ _ _ _ _ (omega arith) c.is_odd-o.ensures c.up_aperture7-up.ensures c.value-d.ensures.below c.finest.ensures c.new_unchecked.ensures (c.new_unchecked-in-loop-r.ensures ∙ c.value-d.ensures.value) c.set_direction-n.ensures
 
-pub cell-y-requires : goal.cell-y-requires
-cell-y-requires c = valid _ _ c.normalize-q.result c.loop-r.n c.loop-r.r c.loop-r.q c.loop-r.invariant (omega arith) (omega arith)
-
-pub returns-then-same_point : goal.returns-then-same_point
-returns-then-same_point c =
-    told _ _ _ c.args.p c.normalize-q.result c.loop-r.n c.loop-r.r c.loop-r.q c.loop-r.invariant (omega arith) c.resolution_number-r.ensures c.normalize-q.ensures c.same_point.result c.same_point.ensures _ (omega arith) c.if-same_point.true c.cell-y.ensures
+pub new_unchecked-y-requires : goal.new_unchecked-y-requires
+new_unchecked-y-requires c =
+    let l = c.loop-r in
+    valid _ _ _ _ c.number-r.ensures.bound c.requires c.unset-n.ensures c.normalize-q.ensures l.n l.r l.q l.invariant (omega arith) (omega arith)
 
 pub returns : goal.returns
 returns c =
-    missed _ _ _ c.args.p c.normalize-q.result c.loop-r.n c.loop-r.r c.loop-r.q c.loop-r.invariant (omega arith) c.resolution_number-r.ensures c.normalize-q.ensures c.same_point.result c.same_point.ensures c.if-same_point.false
+    let l = c.loop-r in
+    told _ _ _ _ c.number-r.ensures.bound c.requires c.unset-n.ensures c.normalize-q.ensures l.n l.r l.q l.invariant (omega arith) (omega arith) _ _ _ c.same_point-is_origin.ensures c.then_some.ensures c.new_unchecked-y.ensures

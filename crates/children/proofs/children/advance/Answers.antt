@@ -1,54 +1,50 @@
 -- By the laws of `Rounds`: what the rounds made is the next child.
-use Rattle.std.proofs.Common.{◌≡◌, ℕ, ◌+◌, ◌-◌, ◌^◌, ◌<◌, sym, ap, ◌∙◌, subst, arith}
-use lib.IntN.{ℤ}
-use mir.Syntax.{w32}
-use mir.Val.{SFits, to_z, of_z}
-use mir.Facts.{to_z-of_z}
-use Rattle.index.specs.Layout.{digit, res_of}
-use Rattle.children.proofs.Carry.{Advanced}
-use Rattle.children.specs.Skips.{Inner, Following}
-use Rattle.children.proofs.Moves.{inner_asked, follow}
+use Rattle.std.proofs.Common.{◌*◌, ◌^◌, ◌≤◌, arith, inl, inr}
 use Rattle.children.proofs.Rounds as rounds
+use Rattle.children.proofs.Rounds.{Elsewhere, Round}
 use Rattle.children.proofs.children.advance.Goals as goal
-
--- the skip is read back from its bits
-back : (n own target y : ℕ) (z s : ℤ) → n < 2 ^ 64 → SFits w32 z → Inner n z own → target ≡ res_of n → Advanced n (to_z w32 (of_z w32 z)) own target y s → Following n own y s
-back n own target y z s f fz i e h = follow n own z f i target y s e (subst (λ (w : ℤ). Advanced n w own target y s) (to_z-of_z fz) h)
+use Rattle.children.proofs.children.advance.Goals.{After-place-one, After-get_direction-d, Joined-else-d-eq1, else-d-eq1-via-then-d-eq1+else-skip-r, else-d-eq1-via-else-d-eq1}
 
 pub loop-r-init : goal.loop-r-init
-loop-r-init c =
-    let a = inner_asked c.args.number c.args.own c.args.skip (omega arith) c.requires.0 c.args.target c.requires.1 in
-    rw (to_z-of_z c.ranges.skip) (rounds.begin _ _ _ _ a.0 a.1 a.2 a.3)
+loop-r-init c = rounds.start c.args.number c.args.skip c.args.own c.args.target (omega arith) c.ranges.skip c.requires.0 c.requires.1
+
+small : (c : After-place-one) → c.place-one.result * 8 ≤ 2 ^ 45
+small c =
+    rounds.unit_small c.args.number c.args.skip c.args.own c.args.target (omega arith) c.ranges.skip c.requires.0 c.requires.1 _ _ c.loop-r.invariant (omega arith) _ _ c.new_unchecked-at.ensures c.place-one.ensures.value
+
+round : (c : After-get_direction-d) → Round c.args.number c.args.skip c.args.own c.args.target c.loop-r.bits c.loop-r.r c.place-one.result c.get_direction-d.result
+round c =
+    rounds.round c.args.number c.args.skip c.args.own c.args.target (omega arith) c.ranges.skip c.requires.0 c.requires.1 _ _ c.loop-r.invariant (omega arith) _ _ c.new_unchecked-at.ensures c.place-one.ensures.value
+    _ c.get_direction-d.ensures
 
 pub overflow_add-bits : goal.overflow_add-bits
-overflow_add-bits c = let i = c.loop-r.invariant.fits in omega (arith, rounds.one_small _ _ _ _ _ _ c.loop-r.invariant c.loop-r-test.true _ (c.place-one.ensures ∙ ap (λ (i : ℕ). 8 ^ (15 - i)) c.resolution.ensures))
+overflow_add-bits c = omega (arith, c.loop-r.invariant.fits, small c)
 
 pub overflow_add-result : goal.overflow_add-result
-overflow_add-result c = let i = c.loop-r.invariant.fits in omega (arith, rounds.one_small _ _ _ _ _ _ c.loop-r.invariant c.loop-r-test.true _ (c.place-one.ensures ∙ ap (λ (i : ℕ). 8 ^ (15 - i)) c.resolution.ensures))
+overflow_add-result c = omega (arith, c.loop-r.invariant.fits, small (goal.at.overflow_add-result c).After-place-one)
 
-pub fall-requires : goal.fall-requires
-fall-requires c = rounds.level _ _ _ _ _ _ c.loop-r.invariant c.loop-r-test.true _ (c.place-one.ensures ∙ ap (λ (i : ℕ). 8 ^ (15 - i)) c.resolution.ensures) _ _ (c.direction-d.ensures ∙ ap (digit (c.loop-r.bits + c.place-one.result)) c.resolution-in-loop-r.ensures) c.is_skipped.ensures c.if-is_skipped.true
+pub returns-then-skip-r : goal.returns-then-skip-r
+returns-then-skip-r c = (round (goal.at.returns-then-skip-r c).After-get_direction-d).hop c.if-d-eq1.true c.if-skip-r.true
 
-pub returns-then-is_skipped : goal.returns-then-is_skipped
-returns-then-is_skipped c =
-    let h = rounds.hop _ _ _ _ _ _ c.loop-r.invariant c.loop-r-test.true _ (c.place-one.ensures ∙ ap (λ (i : ℕ). 8 ^ (15 - i)) c.resolution.ensures) _ _ (c.direction-d.ensures ∙ ap (digit (c.loop-r.bits + c.place-one.result)) c.resolution-in-loop-r.ensures) c.is_skipped.ensures c.if-is_skipped.true in
-    back _ _ _ _ _ _ (omega arith) c.ranges.skip c.requires.0 c.requires.1 (subst (Advanced _ _ _ _ _) (sym (to_z-of_z {w = w32} {z = c.fall.result} (record { sfits = c.fall.type_inv }) ∙ c.fall.ensures)) h)
+past : (c : Joined-else-d-eq1) → Elsewhere c.args.skip c.loop-r.r c.get_direction-d.result
+past c = elim c.else-d-eq1.branch [ else-d-eq1-via-then-d-eq1+else-skip-r w ↦ inr w.if-skip-r.false | else-d-eq1-via-else-d-eq1 w ↦ inl w.if-d-eq1.false ]
 
 pub returns-then-d-lt7 : goal.returns-then-d-lt7
-returns-then-d-lt7 c =
-    let h = rounds.hit _ _ _ _ _ _ c.loop-r.invariant c.loop-r-test.true _ (c.place-one.ensures ∙ ap (λ (i : ℕ). 8 ^ (15 - i)) c.resolution.ensures) _ _ (c.direction-d.ensures ∙ ap (digit (c.loop-r.bits + c.place-one.result)) c.resolution-in-loop-r.ensures) c.is_skipped.ensures c.if-is_skipped.false c.if-d-lt7.true in
-    back _ _ _ _ _ _ (omega arith) c.ranges.skip c.requires.0 c.requires.1 h
+returns-then-d-lt7 c = let p = goal.at.returns-then-d-lt7 c in (round p.After-get_direction-d).hit (past p.Joined-else-d-eq1) c.if-d-lt7.true
 
 pub overflow_mul-bits : goal.overflow_mul-bits
-overflow_mul-bits c = omega (arith, rounds.one_small _ _ _ _ _ _ c.loop-r.invariant c.loop-r-test.true _ (c.place-one.ensures ∙ ap (λ (i : ℕ). 8 ^ (15 - i)) c.resolution.ensures))
+overflow_mul-bits c = omega (arith, small (goal.at.overflow_mul-bits c).After-place-one)
 
 pub overflow_sub-bits : goal.overflow_sub-bits
-overflow_sub-bits c = omega (arith, rounds.enough _ _ _ _ _ _ c.loop-r.invariant c.loop-r-test.true _ (c.place-one.ensures ∙ ap (λ (i : ℕ). 8 ^ (15 - i)) c.resolution.ensures) _ _ (c.direction-d.ensures ∙ ap (digit (c.loop-r.bits + c.place-one.result)) c.resolution-in-loop-r.ensures) c.is_skipped.ensures c.if-is_skipped.false c.if-d-lt7.false)
+overflow_sub-bits c = let p = goal.at.overflow_sub-bits c in (round p.After-get_direction-d).enough (past p.Joined-else-d-eq1) c.if-d-lt7.false
 
 pub loop-r-preserved : goal.loop-r-preserved
-loop-r-preserved c = rounds.again _ _ _ _ _ _ c.loop-r.invariant c.loop-r-test.true _ (c.place-one.ensures ∙ ap (λ (i : ℕ). 8 ^ (15 - i)) c.resolution.ensures) _ _ (c.direction-d.ensures ∙ ap (digit (c.loop-r.bits + c.place-one.result)) c.resolution-in-loop-r.ensures) c.is_skipped.ensures c.if-is_skipped.false c.if-d-lt7.false
+loop-r-preserved c = let p = goal.at.loop-r-preserved c in (round p.After-get_direction-d).again (past p.Joined-else-d-eq1) c.if-d-lt7.false
 
 pub returns : goal.returns
-returns c =
-    let h = rounds.end _ _ _ _ _ _ c.loop-r.invariant c.loop-r-test.false in
-    back _ _ _ _ _ _ (omega arith) c.ranges.skip c.requires.0 c.requires.1 h
+returns c = rounds.finish c.args.number c.args.skip c.args.own c.args.target (omega arith) c.ranges.skip c.requires.0 c.requires.1 _ _ c.loop-r.invariant (omega arith)
+
+pub returns-else-d-lt7 : goal.returns-else-d-lt7
+returns-else-d-lt7 c =
+    let p = goal.at.returns-else-d-lt7 c in
+    rounds.finish c.args.number c.args.skip c.args.own c.args.target (omega arith) c.ranges.skip c.requires.0 c.requires.1 _ _ ((round p.After-get_direction-d).again (past p.Joined-else-d-eq1) c.if-d-lt7.false) (omega arith)

@@ -3,6 +3,3 @@ use Rattle.children.proofs.children.advance.Given as goal
 
 abbrev pub invariant-loop-r : goal.invariant-loop-r
 invariant-loop-r l = Kept l.number l.skip l.own l.target l.bits l.r
-
-abbrev pub decreases-loop-r : goal.decreases-loop-r
-decreases-loop-r l = l.r

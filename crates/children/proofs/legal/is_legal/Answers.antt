@@ -1,34 +1,37 @@
 -- By the laws of `Judging`.
-use Rattle.std.proofs.Common.{ℕ, ◌≤◌, sym, ap, ◌∙◌, subst, arith}
+use Rattle.std.proofs.Common.{◌≡◌, arith, ⊎_elim}
 use borrow.Author.Rules.{sfits_of}
-use mir.Syntax.{w32}
-use mir.Facts.{to_z-of_z}
-use Rattle.index.specs.Layout.{res_of, Valid}
-use Rattle.index.specs.Ancestor.{ancestor_of}
+use Rattle.index.specs.Layout.{Valid}
 use Rattle.index.proofs.Answers.{of_cell}
-use Rattle.children.specs.Cursors.{placed}
 use Rattle.children.proofs.Judging as judging
+use Rattle.children.proofs.Judging.{Judged}
 use Rattle.children.proofs.legal.is_legal.Goals as goal
+use Rattle.children.proofs.legal.is_legal.Goals.{In-Ok, After-rank_of-p}
 
-pub returns-then-resolution_number-target : goal.returns-then-resolution_number-target
-returns-then-resolution_number-target c =
-    let told = of_cell _ _ _ c.in-Valid.is c.check-a.ensures in
-    let read = c.resolution_number.ensures ∙ c.resolution_of.ensures ∙ ap res_of told.0 in
-    judging.other_res c.args.cursor told.1 (λ e. c.if-resolution_number-target.true (read ∙ e))
+cell : (c : In-Ok) → (c.in-Ok.y ≡ c.args.cursor.number) × Valid c.args.cursor.number
+cell c = of_cell c.args.cursor.number c.check.result c.in-Ok.y c.in-Ok.is c.check.ensures
 
-pub is_placed-requires : goal.is_placed-requires
-is_placed-requires c =
-    let told = of_cell _ _ _ c.in-Valid.is c.check-a.ensures in
-    let read = c.resolution_number.ensures ∙ c.resolution_of.ensures ∙ ap res_of told.0 in
-    let e = sym read ∙ c.if-resolution_number-target.false in
-    (subst Valid (sym told.0) told.1, subst (λ (y : ℕ). c.args.cursor.own ≤ res_of y) (sym told.0) (omega (arith, e)))
-
-pub returns : goal.returns
-returns c =
-    let told = of_cell _ _ _ c.in-Valid.is c.check-a.ensures in
-    let read = c.resolution_number.ensures ∙ c.resolution_of.ensures ∙ ap res_of told.0 in
+pub returns-then-target-cursor : goal.returns-then-target-cursor
+returns-then-target-cursor c =
+    let k = cell (goal.at.returns-then-target-cursor c).In-Ok in
     let s = c.args.cursor in
-    judging.well_placed s told.1 (sym read ∙ c.if-resolution_number-target.false) c.if-target-own.false _
-    (c.is_placed.ensures
-    ∙ ap (placed (ancestor_of c.in-Valid.y.0 s.own) c.in-Valid.y.0 s.left) (to_z-of_z {w = w32} {z = s.skip} (search sfits_of))
-    ∙ ap (λ (y : ℕ). placed (ancestor_of y s.own) y s.left s.skip) told.0)
+    ⊎_elim
+    (λ h. judging.other_target s c.in-Ok.y _ _ (omega arith) k.1 k.0 c.number-target.ensures.value c.resolution-fine.ensures h)
+    (λ (h, g). judging.too_coarse s c.in-Ok.y _ _ (omega arith) k.1 k.0 c.number-target.ensures.value c.resolution-fine.ensures (omega arith) g)
+    c.then-target-cursor.either
+
+judged : (c : After-rank_of-p) → Judged c.args.cursor c.in-Ok.y c.resolution-fine.result c.count_down-total.result c.rank_of-p.result c.is_pentagon-pent.result
+judged c =
+    let k = cell (goal.at.overflow_sub-total c).In-Ok in
+    judging.judged c.args.cursor c.in-Ok.y _ _ (omega arith) k.1 k.0 c.number-target.ensures.value c.resolution-fine.ensures c.if-target-cursor.false c.if-target-own.false
+    _ _ _ _ _ c.new_unchecked-coarse.ensures c.ancestor.ensures c.is_pentagon-pent.ensures c.count_down-total.ensures c.rank_of-p.ensures
+
+pub overflow_sub-total : goal.overflow_sub-total
+overflow_sub-total c = let h = (judged c).under in omega (arith, h)
+
+pub returns-then-total-p : goal.returns-then-total-p
+returns-then-total-p c =
+    (judged (goal.at.returns-then-total-p c).After-rank_of-p).all_counted _ c.max.ensures c.if-total-p.true _ c.skip_count.result (search sfits_of) c.leading.ensures.value c.skip_count.ensures
+
+pub returns-else-total-p : goal.returns-else-total-p
+returns-else-total-p c = (judged (goal.at.returns-else-total-p c).After-rank_of-p).not_counted _ c.max.ensures c.if-total-p.false

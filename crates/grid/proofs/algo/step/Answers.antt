@@ -1,7 +1,8 @@
 -- Each way through the code is a way through the definition, by the laws of `Steps`.
-use Rattle.std.proofs.Common.{◌≡◌, ℕ, ◌^◌, ◌≤◌, ◌<◌, Bool, true, false, true≢false, map, sym, ap, ◌∙◌, subst, arith}
+use Rattle.std.proofs.Common.{◌≡◌, ℕ, ◌^◌, ◌<◌, Bool, true, false, true≢false, ◌⊎◌, inl, inr, ◌&&◌, eqb, eq-eqb, ne_eqb, map, sym, ◌∙◌, rules}
+use Rattle.std.proofs.lemmas.Bool.{and_parts, eqb-true}
 use Rattle.plane.specs.Directions.{turns}
-use Rattle.index.specs.Layout.{res_of, base_of, digit, first_of, is_pentagonal, Valid}
+use Rattle.index.specs.Layout.{res_of, base_of, first_of, is_pentagonal, Valid}
 use Rattle.index.specs.View.{used, pack, first}
 use Rattle.index.specs.Refusals.{answered, refused}
 use Rattle.index.specs.Written.{WithDigits}
@@ -10,146 +11,106 @@ use Rattle.walks.specs.Walks.{walked_of, carry_of}
 use Rattle.grid.specs.Steps.{inside, leaves, step_of}
 use Rattle.grid.proofs.Steps.{olds, news, leaving, staying, refusing, turning_ccw, turning_cw, fit_news, fit_turned, walked_rest, walked_first, walked_turned}
 use Rattle.grid.proofs.algo.step.Goals as goal
+use Rattle.grid.proofs.algo.step.Goals.{After-is_deleted, After-first_axe-first, then-ccw, else-ccw}
 
--- after the walk, whose number is y and carry e
-record Base (n way y e : ℕ) : Type 0 where
+left : (n way e v : ℕ) → e ≡ carry_of n way → v ≡ e → (v ≡ 0 → ⊥) → answered (leaves e) ≡ step_of n way
+left n way e v ee ev f = rw ee (sym (leaving n way (λ q. f (ev ∙ ee ∙ q))))
+
+-- nothing is left over, and y is the walk's number; t says whether its first digit is deleted
+record Walk (n way y : ℕ) (t : Bool) : Type 0 where
   cell : Valid n
   fits : n < 2 ^ 64
   small : way < 7
   number : y ≡ walked_of n way
-  carry : e ≡ carry_of n way
+  none : carry_of n way ≡ 0
+  test : t ≡ (is_pentagonal (base_of n) && eqb (first_of y (res_of y)) 1)
 
-base : (n way y e : ℕ) → n < 2 ^ 64 → Valid n × (1 ≤ way) × (way < 7) → (y ≡ walked_of n way) × (e ≡ carry_of n way) → Base n way y e
-base n way y e h r w = record { cell = r.0; fits = h; small = r.2; number = w.0; carry = w.1 }
+module _ (n way y : ℕ) (t : Bool) (w : Walk n way y t) where
+  new_first : first_of y (res_of y) ≡ first (news n way)
+  new_first = rw w.number (walked_first n way w.cell w.small)
 
--- what may be turned
-abbrev Turnable : ℕ → Type 0
-Turnable x = ((s : ℕ) → res_of x < s → s ≤ 15 → digit x s ≡ 7) × (1 ≤ 5)
+  keeps : t ≡ false → is_pentagonal (base_of n) ≡ true → first (news n way) ≡ 1 → ⊥
+  keeps f p g = true≢false (sym (w.test ∙ rw (p, new_first, g)) ∙ f)
 
-module _ (n way y e : ℕ) (b : Base n way y e) where
-  left : (e ≡ 0 → ⊥) → answered (leaves e) ≡ step_of n way
-  left f = ap (λ (x : ℕ). answered (leaves x)) b.carry ∙ sym (leaving n way (λ q. f (b.carry ∙ q)))
+  kept_valid : t ≡ false → Valid y
+  unfolding walked_of
+  kept_valid f = rw w.number (pack_valid (base_of n) (news n way) (fit_news n way w.cell w.small (keeps f)))
 
-  new_first : (g : ℕ) → g ≡ first_of y (res_of y) → g ≡ first (news n way)
-  new_first g eg = eg ∙ ap (λ (x : ℕ). first_of x (res_of x)) b.number ∙ walked_first n way b.cell b.small
+  kept : (m : ℕ) → t ≡ false → m ≡ y → answered (inside m 0) ≡ step_of n way
+  unfolding walked_of
+  kept m f em = rw (em, w.number) (sym (staying n way w.none (keeps f)))
 
-  turnable : Turnable y
-  turnable = subst Turnable (sym b.number) (walked_rest n way b.cell b.small, omega arith)
-
--- where the answer is the walk's number
-record Plain (n way y : ℕ) : Type 0 where
-  cell : Valid y
-  step : (m : ℕ) → m ≡ y → answered (inside m 0) ≡ step_of n way
-
-plain : (n way y e : ℕ) → Base n way y e → e ≡ 0 → (is_pentagonal (base_of n) ≡ true → first (news n way) ≡ 1 → ⊥) → Plain n way y
-unfolding walked_of
-plain n way y e b z k =
-    record {
-      cell = subst Valid (sym b.number) (pack_valid (base_of n) (news n way) (fit_news n way b.cell b.small k));
-      step = λ m em. ap (λ (x : ℕ). answered (inside x 0)) (em ∙ b.number) ∙ sym (staying n way (sym b.carry ∙ z) k);
-    }
-
-hexagonal : (n : ℕ) (t : Bool) → t ≡ is_pentagonal (base_of n) → t ≡ false → is_pentagonal (base_of n) ≡ true → ⊥
-hexagonal n t et f q = true≢false (sym q ∙ sym et ∙ f)
-
--- where the new first digit is deleted; f is the origin's
+-- it is; f is the first digit that the cell had
 record Deleted (n way y f : ℕ) : Type 0 where
-  is : Valid n
+  cell : Valid n
   fits : n < 2 ^ 64
   small : way < 7
   number : y ≡ walked_of n way
   none : carry_of n way ≡ 0
   pentagonal : is_pentagonal (base_of n) ≡ true
   one : first (news n way) ≡ 1
-  old : f ≡ first (olds n)
+  old : first (olds n) ≡ f
 
-deleted : (n way y e : ℕ) → Base n way y e → e ≡ 0 → (t : Bool) (g m f : ℕ) → t ≡ is_pentagonal (base_of n) → t ≡ true → g ≡ first_of y (res_of y) → g ≡ 1 → m ≡ n → f ≡ first_of m (res_of m) → Deleted n way y f
-deleted n way y e b z t g m f et ft eg g1 em ef =
+deleted : (n way y : ℕ) (t : Bool) (m f : ℕ) → Walk n way y t → t ≡ true → m ≡ n → f ≡ first_of m (res_of m) → Deleted n way y f
+deleted n way y t m f w d em ef =
+    let p = and_parts _ _ (sym w.test ∙ d) in
     record {
-      is = b.cell;
-      fits = b.fits;
-      small = b.small;
-      number = b.number;
-      none = sym b.carry ∙ z;
-      pentagonal = sym et ∙ ft;
-      one = sym (new_first n way y e b g eg) ∙ g1;
-      old = ef ∙ ap (λ (x : ℕ). first_of x (res_of x)) em ∙ sym (first_used n (res_of n));
+      cell = w.cell;
+      fits = w.fits;
+      small = w.small;
+      number = w.number;
+      none = w.none;
+      pentagonal = p.0;
+      one = sym (new_first n way y t w) ∙ eqb-true _ _ p.1;
+      old = first_used n (res_of n) ∙ sym (rw em at ef);
     }
 
 module _ (n way y f : ℕ) (d : Deleted n way y f) where
   refusal : f ≡ 0 → refused 17 ≡ step_of n way
-  refusal q = sym (refusing n way d.none d.pentagonal d.one (sym d.old ∙ q))
+  refusal q = sym (refusing n way d.none d.pentagonal d.one (d.old ∙ q))
 
-  turned : (o : Bool) (w : ℕ) → w < 2 ^ 64 → WithDigits y (map (turns o 1) (used y (res_of y))) w → w ≡ pack (base_of n) (map (turns o 1) (news n way))
-  turned o w h ew = walked_turned n way d.is d.small o w d.fits h (subst (λ (x : ℕ). WithDigits x (map (turns o 1) (used x (res_of x))) w) d.number ew)
+  -- turned once, counter-clockwise where f is 3
+  module _ (by : Bool × ℕ) (m : ℕ) (eb : by ≡ (eqb f 3, 1)) (l : m < 2 ^ 64) (em : WithDigits y (map (turns by.0 by.1) (used y (res_of y))) m) where
+    turned : m ≡ pack (base_of n) (map (turns (eqb f 3) 1) (news n way))
+    turned = walked_turned n way d.cell d.small (eqb f 3) m d.fits l (rw (eb, d.number) at em)
 
-  valid : (o : Bool) (w : ℕ) → w < 2 ^ 64 → WithDigits y (map (turns o 1) (used y (res_of y))) w → Valid w
-  valid o w h ew = subst Valid (sym (turned o w h ew)) (pack_valid (base_of n) (map (turns o 1) (news n way)) (fit_turned n way d.is d.small o d.one))
+    turned_valid : Valid m
+    turned_valid = rw turned (pack_valid (base_of n) (map (turns (eqb f 3) 1) (news n way)) (fit_turned n way d.cell d.small (eqb f 3) d.one))
 
-  ccw : (w r : ℕ) → w < 2 ^ 64 → WithDigits y (map (turns true 1) (used y (res_of y))) w → r ≡ w → f ≡ 3 → answered (inside r 1) ≡ step_of n way
-  ccw w r h ew er s = ap (λ (x : ℕ). answered (inside x 1)) (er ∙ turned true w h ew) ∙ sym (turning_ccw n way d.none d.pentagonal d.one (sym d.old ∙ s))
+    stepped : (k u : ℕ) → (f ≡ 0 → ⊥) → k ≡ m → ((f ≡ 3) × (u ≡ 1)) ⊎ ((f ≡ 3 → ⊥) × (u ≡ 5)) → answered (inside k u) ≡ step_of n way
+    stepped k u q ek (inl s) = rw (ek, s.1, turned, eq-eqb f 3 s.0) (sym (turning_ccw n way d.none d.pentagonal d.one (d.old ∙ s.0)))
+    stepped k u q ek (inr s) = rw (ek, s.1, turned, ne_eqb f 3 s.0) (sym (turning_cw n way d.none d.pentagonal d.one (λ p. q (sym d.old ∙ p)) (λ p. s.0 (sym d.old ∙ p))))
 
-  cw : (w r : ℕ) → w < 2 ^ 64 → WithDigits y (map (turns false 1) (used y (res_of y))) w → r ≡ w → (f ≡ 0 → ⊥) → (f ≡ 3 → ⊥) → answered (inside r 5) ≡ step_of n way
-  cw w r h ew er q s = ap (λ (x : ℕ). answered (inside x 5)) (er ∙ turned false w h ew) ∙ sym (turning_cw n way d.none d.pentagonal d.one (λ z. q (d.old ∙ z)) (λ z. s (d.old ∙ z)))
+walk : (c : After-is_deleted) → Walk c.args.c c.args.d c.walk-w.result.number c.is_deleted.result
+walk c =
+    record { cell = search rules; fits = search rules; small = search rules; number = c.walk-w.ensures.0; none = search rules; test = c.is_deleted.ensures }
 
--- the same at the places of the code
+known : (c : After-first_axe-first) → Deleted c.args.c c.args.d c.walk-w.result.number c.first_axe-first.result
+known c =
+    deleted _ _ _ _ _ _
+    (record { cell = search rules; fits = search rules; small = search rules; number = c.walk-w.ensures.0; none = search rules; test = c.is_deleted.ensures })
+    c.if-not-is_deleted.false c.number.ensures.value c.first_axe-first.ensures
+
 pub returns-then-value-ne0 : goal.returns-then-value-ne0
-returns-then-value-ne0 c =
-    let b = base c.args.c.0 c.args.d.0 _ _ (omega arith) c.requires c.walk-w.ensures in
-    left _ _ _ _ b (λ q. c.if-value-ne0.true (c.value.ensures ∙ q))
+returns-then-value-ne0 c = left _ _ _ _ c.walk-w.ensures.1 c.value.ensures.value c.if-value-ne0.true
 
-pub cell-free-requires : goal.cell-free-requires
-cell-free-requires c =
-    let b = base c.args.c.0 c.args.d.0 _ _ (omega arith) c.requires c.walk-w.ensures in
-    (plain _ _ _ _ b (sym c.value.ensures ∙ c.if-value-ne0.false) (λ q g. hexagonal _ _ c.in_pentagon.ensures c.if-not-in_pentagon.true q)).cell
+pub new_unchecked-kept-requires : goal.new_unchecked-kept-requires
+new_unchecked-kept-requires c = kept_valid _ _ _ _ (walk (goal.at.new_unchecked-kept-requires c).After-is_deleted) c.if-not-is_deleted.true
 
-pub returns-then-not-in_pentagon : goal.returns-then-not-in_pentagon
-returns-then-not-in_pentagon c =
-    let b = base c.args.c.0 c.args.d.0 _ _ (omega arith) c.requires c.walk-w.ensures in
-    (plain _ _ _ _ b (sym c.value.ensures ∙ c.if-value-ne0.false) (λ q g. hexagonal _ _ c.in_pentagon.ensures c.if-not-in_pentagon.true q)).step _ c.cell-free.ensures
-
-pub cell-kept-requires : goal.cell-kept-requires
-cell-kept-requires c =
-    let b = base c.args.c.0 c.args.d.0 _ _ (omega arith) c.requires c.walk-w.ensures in
-    (plain _ _ _ _ b (sym c.value.ensures ∙ c.if-value-ne0.false) (λ q g. c.if-first_direction-ne1.true (new_first _ _ _ _ b _ c.first_direction.ensures ∙ g))).cell
-
-pub returns-then-first_direction-ne1 : goal.returns-then-first_direction-ne1
-returns-then-first_direction-ne1 c =
-    let b = base c.args.c.0 c.args.d.0 _ _ (omega arith) c.requires c.walk-w.ensures in
-    (plain _ _ _ _ b (sym c.value.ensures ∙ c.if-value-ne0.false) (λ q g. c.if-first_direction-ne1.true (new_first _ _ _ _ b _ c.first_direction.ensures ∙ g))).step _ c.cell-kept.ensures
+pub returns-then-not-is_deleted : goal.returns-then-not-is_deleted
+returns-then-not-is_deleted c = kept _ _ _ _ (walk (goal.at.returns-then-not-is_deleted c).After-is_deleted) _ c.if-not-is_deleted.true c.new_unchecked-kept.ensures
 
 pub returns-then-first-eq0 : goal.returns-then-first-eq0
-returns-then-first-eq0 c =
-    let b = base c.args.c.0 c.args.d.0 _ _ (omega arith) c.requires c.walk-w.ensures in
-    let d = deleted _ _ _ _ b (sym c.value.ensures ∙ c.if-value-ne0.false) _ _ _ _ c.in_pentagon.ensures c.if-not-in_pentagon.false c.first_direction.ensures c.if-first_direction-ne1.false c.number_of.ensures c.first_direction-first.ensures in
-    refusal _ _ _ _ d c.if-first-eq0.true
+returns-then-first-eq0 c = refusal _ _ _ _ (known (goal.at.returns-then-first-eq0 c).After-first_axe-first) c.if-first-eq0.true
 
 pub turn_digits-requires : goal.turn_digits-requires
-turn_digits-requires c = turnable _ _ _ _ (base c.args.c.0 c.args.d.0 _ _ (omega arith) c.requires c.walk-w.ensures)
+turn_digits-requires c = rw c.walk-w.ensures.0 (walked_rest c.args.c c.args.d (search rules) (search rules))
 
-pub cell-ccw-requires : goal.cell-ccw-requires
-cell-ccw-requires c =
-    let b = base c.args.c.0 c.args.d.0 _ _ (omega arith) c.requires c.walk-w.ensures in
-    let d = deleted _ _ _ _ b (sym c.value.ensures ∙ c.if-value-ne0.false) _ _ _ _ c.in_pentagon.ensures c.if-not-in_pentagon.false c.first_direction.ensures c.if-first_direction-ne1.false c.number_of.ensures c.first_direction-first.ensures in
-    valid _ _ _ _ d true _ (omega arith) c.turn_digits.ensures
-
-pub returns-then-first-eq3 : goal.returns-then-first-eq3
-returns-then-first-eq3 c =
-    let b = base c.args.c.0 c.args.d.0 _ _ (omega arith) c.requires c.walk-w.ensures in
-    let d = deleted _ _ _ _ b (sym c.value.ensures ∙ c.if-value-ne0.false) _ _ _ _ c.in_pentagon.ensures c.if-not-in_pentagon.false c.first_direction.ensures c.if-first_direction-ne1.false c.number_of.ensures c.first_direction-first.ensures in
-    ccw _ _ _ _ d _ _ (omega arith) c.turn_digits.ensures c.cell-ccw.ensures c.if-first-eq3.true
-
-pub turn_digits-requires-2 : goal.turn_digits-requires-2
-turn_digits-requires-2 c = turnable _ _ _ _ (base c.args.c.0 c.args.d.0 _ _ (omega arith) c.requires c.walk-w.ensures)
-
-pub cell-cw-requires : goal.cell-cw-requires
-cell-cw-requires c =
-    let b = base c.args.c.0 c.args.d.0 _ _ (omega arith) c.requires c.walk-w.ensures in
-    let d = deleted _ _ _ _ b (sym c.value.ensures ∙ c.if-value-ne0.false) _ _ _ _ c.in_pentagon.ensures c.if-not-in_pentagon.false c.first_direction.ensures c.if-first_direction-ne1.false c.number_of.ensures c.first_direction-first.ensures in
-    valid _ _ _ _ d false _ (omega arith) c.turn_digits-2.ensures
+pub new_unchecked-turned-requires : goal.new_unchecked-turned-requires
+new_unchecked-turned-requires c =
+    turned_valid _ _ _ _ (known (goal.at.new_unchecked-turned-requires c).After-first_axe-first) _ _ c.new_unchecked.ensures c.turn_digits.type_inv c.turn_digits.ensures
 
 pub returns : goal.returns
 returns c =
-    let b = base c.args.c.0 c.args.d.0 _ _ (omega arith) c.requires c.walk-w.ensures in
-    let d = deleted _ _ _ _ b (sym c.value.ensures ∙ c.if-value-ne0.false) _ _ _ _ c.in_pentagon.ensures c.if-not-in_pentagon.false c.first_direction.ensures c.if-first_direction-ne1.false c.number_of.ensures c.first_direction-first.ensures in
-    cw _ _ _ _ d _ _ (omega arith) c.turn_digits-2.ensures c.cell-cw.ensures c.if-first-eq0.false c.if-first-eq3.false
+    stepped _ _ _ _ (known (goal.at.returns c).After-first_axe-first) _ _ c.new_unchecked.ensures c.turn_digits.type_inv c.turn_digits.ensures _ _ c.if-first-eq0.false c.new_unchecked-turned.ensures
+    (elim c.if-ccw.branch [ then-ccw w ↦ inl (w.if-ccw.true, w.turn-is) | else-ccw w ↦ inr (w.if-ccw.false, w.turn-is) ])

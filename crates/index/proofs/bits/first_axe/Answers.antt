@@ -17,4 +17,4 @@ returns-then-k-at c =
 
 pub returns-else-k-at : goal.returns-else-k-at
 returns-else-k-at c =
-    c.get_direction-else-k-at.ensures ∙ within c.args.n (res_of c.args.n) (omega arith) (omega arith) (omega arith)
+    c.get_direction-else-k-at.ensures ∙ ap (digit c.args.n) c.new_unchecked.ensures ∙ within c.args.n (res_of c.args.n) (omega arith) (omega arith) (omega arith)

@@ -1,10 +1,7 @@
 -- j runs are written, and v is the first of the next.
-use Rattle.std.proofs.Common.{◌≡◌, ◌+◌, ◌-◌, ◌*◌, ◌≤◌, length}
+use Rattle.std.proofs.Common.{◌≡◌, ◌+◌, ◌*◌}
 use Rattle.listing.specs.Copies.{stairs}
 use Rattle.listing.proofs.blocks.runs.Given as goal
 
 abbrev pub invariant-loop-j : goal.invariant-loop-j
-invariant-loop-j l = record { at_most : l.j ≤ l.k; next : l.v ≡ l.q + l.j * (8 * l.s); long : length l.buf ≡ length l.fn.buf; written : l.buf ≡ stairs l.fn.buf l.i l.q l.s l.j }
-
-abbrev pub decreases-loop-j : goal.decreases-loop-j
-decreases-loop-j l = l.k - l.j
+invariant-loop-j l = record { next : l.v ≡ l.q + l.j * (8 * l.s); written : l.buf ≡ stairs l.fn.buf l.i l.q l.s l.j }

@@ -1,4 +1,4 @@
-use Rattle.entry.specs.Answers.{stepped_told}
+use Rattle.step_entries.specs.Told.{stepped_told}
 use Rattle.rivetgnome.proofs.Narrow.{step_fits}
 use Rattle.rivetgnome.proofs.steps.rg_step.Goals as goal
 

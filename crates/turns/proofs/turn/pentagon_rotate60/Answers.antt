@@ -1,5 +1,5 @@
 -- The count that the code chooses is the document's.
-use Rattle.std.proofs.Common.{◌≡◌, ℕ, Bool, cond, ◌∙◌, eqb}
+use Rattle.std.proofs.Common.{◌≡◌, ℕ, Bool, cond, ap, ◌∙◌, eqb}
 use Rattle.index.specs.Layout.{res_of, first_of}
 use Rattle.index.proofs.View.{first_used}
 use Rattle.turns.specs.Turns.{turned_by, pentagon_turned}
@@ -12,4 +12,4 @@ law o n m b f k y em eb ef ek ey = ey ∙ rw (ek, ef, eb, em, first_used n (res_
 
 pub returns : goal.returns
 returns c =
-    law c.args.ccw c.args.c.0 _ _ _ _ _ c.number_of.ensures c.sel-before_one.ensures c.first_direction.ensures c.sel-count.ensures c.rotate60.ensures
+    law c.args.ccw c.args.c _ _ _ _ _ c.number.ensures.value c.sel-before_one.ensures c.first_axe.ensures c.sel-count.ensures (c.rotate60.ensures ∙ ap (λ (t : Bool × ℕ). turned_by t.0 t.1 c.args.c) c.new_unchecked.ensures)

@@ -11,4 +11,4 @@ use Rattle.turns.proofs.turn.rotate60.Goals as goal
 pub returns : goal.returns
 unfolding turned_by
 returns c =
-    redrawn_cell _ _ _ (omega arith) c.requires.0 (subst (λ (m : ℕ). WithDigits m (map (turns c.args.ccw c.args.count) (used m (res_of m))) c.turn_digits.result) c.number_of.ensures c.turn_digits.ensures)
+    redrawn_cell _ _ _ (omega arith) c.number.ensures.valid (subst (λ (m : ℕ). WithDigits m (map (turns c.args.by.0 c.args.by.1) (used m (res_of m))) c.turn_digits.result) c.number.ensures.value c.turn_digits.ensures)

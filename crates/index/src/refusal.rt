@@ -1,0 +1,43 @@
+// Why a request is refused: document 01's table.
+ghost use Rattle.std.specs.Prelude.{◌≡◌};
+ghost use Rattle.index.specs.Told.{number};
+
+use std::error::Error;
+use std::fmt;
+
+#[derive(Clone, Copy, Debug, PartialEq, Eq, Hash)]
+pub enum Refusal {
+    TopBit = 1,
+    Mode,
+    Reserved,
+    BaseCell,
+    Digit,
+    Unused,
+    Deleted,
+    Resolution,
+    Order,
+    NoRoom,
+    Position,
+    NotUnder,
+    Direction,
+    Range,
+    NoString,
+    NotUnit,
+    DeletedWay,
+}
+
+impl Refusal {
+    pub fn number(self) -> u16
+        ensures { result ≡ number self }
+    {
+        self as u16
+    }
+}
+
+impl fmt::Display for Refusal {
+    fn fmt<W: fmt::Write>(&self, f: &mut fmt::Formatter<W>) -> fmt::Result {
+        write!(f, "refusal {}", self.number())
+    }
+}
+
+impl Error for Refusal {}

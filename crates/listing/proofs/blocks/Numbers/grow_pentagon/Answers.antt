@@ -1,0 +1,43 @@
+-- By the laws of `Levels`.
+use Rattle.std.proofs.Common.{◌≡◌, ◌+◌, refl, arith}
+use Rattle.listing.proofs.Levels as levels
+use Rattle.listing.proofs.blocks.Numbers.grow_pentagon.Goals as goal
+
+pub loop-init : goal.loop-init
+loop-init c = levels.begun _ _ _ 41 refl (omega arith) (omega (arith, c.requires.deep)) c.requires.begun
+
+-- at a turn
+pub spread-requires : goal.spread-requires
+spread-requires c =
+    let v = c.loop.invariant in
+    let r = levels.pentagon_room _ _ _ _ _ _ _ c.requires.room v c.loop-test.true in
+    (v.one, omega arith, omega arith, omega (arith, r.0))
+
+pub spread-requires-in-loop : goal.spread-requires-in-loop
+spread-requires-in-loop c =
+    let v = c.loop.invariant in
+    let r = levels.pentagon_room _ _ _ _ _ _ _ c.requires.room v c.loop-test.true in
+    (omega (arith, v.one), omega arith, omega arith, omega (arith, r.0))
+
+pub spread-requires-in-loop-2 : goal.spread-requires-in-loop-2
+spread-requires-in-loop-2 c =
+    let v = c.loop.invariant in
+    let r = levels.pentagon_room _ _ _ _ _ _ _ c.requires.room v c.loop-test.true in
+    (v.one, omega arith, omega arith, omega (arith, r.0))
+
+pub loop-preserved : goal.loop-preserved
+loop-preserved c = levels.pentagon_turn _ _ _ _ _ _ _ c.requires.room c.loop.invariant c.loop-test.true _ _ _ c.spread.ensures c.spread-in-loop.ensures c.spread-in-loop-2.ensures
+
+-- past the last
+pub spread-requires-2 : goal.spread-requires-2
+spread-requires-2 c =
+    let z : c.loop.counter + 1 ≡ c.args.self.levels = omega (arith, c.loop.auto, c.loop-test.false, c.requires.deep) in
+    let r = levels.pentagon_last _ _ _ _ _ _ _ c.requires.room c.loop.invariant z in
+    (c.loop.invariant.one, omega arith, omega arith, r.1)
+
+pub returns : goal.returns
+returns c =
+    let z : c.loop.counter + 1 ≡ c.args.self.levels = omega (arith, c.loop.auto, c.loop-test.false, c.requires.deep) in
+    let r = levels.pentagon_last _ _ _ _ _ _ _ c.requires.room c.loop.invariant z in
+    let e = levels.pentagon_blocks _ _ _ _ _ _ _ c.requires.room c.loop.invariant (omega (arith, z)) _ c.spread-2.ensures in
+    rw r.0 at e

@@ -1,0 +1,7 @@
+-- All is written to the end of the first block of the level that the counter says.
+use Rattle.std.proofs.Common.{true}
+use Rattle.listing.proofs.Levels.{Level}
+use Rattle.listing.proofs.blocks.Numbers.grow_pentagon.Given as goal
+
+abbrev pub invariant-loop : goal.invariant-loop
+invariant-loop l = Level l.fn.self true l.fn.buf l.buf l.at l.size l.step l.counter
