@@ -1,5 +1,5 @@
 -- What the scanner's state says of the bytes read so far, in the words of Numeral and Lines.
-use Rattle.std.specs.Prelude.{ℕ, ◌+◌, ◌^◌, ◌≤◌, ◌<◌, min, ◌≡◌, ◌⊎◌, true, false, cond, List, [], ◌∷◌, ◌++◌, ltb, length, take, get_or, pos, neg_ℤ, ℤ, Option, Some, None}
+use Rattle.std.specs.Prelude.{ℕ, ◌^◌, ◌≤◌, ◌<◌, min, ◌≡◌, ◌⊎◌, true, false, cond, List, [], ◌∷◌, ◌++◌, length, take, get_or, Option, Some, None}
 use Rattle.words.specs.Lines.{parts, words_of}
 use Rattle.words.specs.Numeral.{digits, value, numeral, minus, bare}
 use Rattle.words.specs.declared.word.Digits.{Digits}
@@ -36,10 +36,6 @@ pub record Reads (w : Word) (bs : List ℕ) : Type 0 where
 -- a number of 64 bits in a base
 abbrev pub natural : ℕ → List ℕ → Option ℕ
 natural base bs = cond (numeral base (2 ^ 64) bs) (Some (value base bs)) None
-
--- the number below 0, where it fits 32 bits
-abbrev pub negated : ℕ → Option ℤ
-negated n = cond (ltb n (2 ^ 31 + 1)) (Some (neg_ℤ (pos n))) None
 
 -- what `get_or` gives past an array's end
 abbrev pub unread : Word
