@@ -14,8 +14,8 @@ use Rattle.index.specs.View.{used}
 use Rattle.index.specs.Ancestor.{ancestor_of}
 use Rattle.index.specs.Check.{check_of}
 use Rattle.index.proofs.Validity.{valid_accepted}
-use Rattle.descent.specs.Descendants.{pentagon, count, count_of}
-use Rattle.descent.specs.Positions.{rank, seg, position_of}
+use Rattle.descent.specs.Descendants.{pentagon, count_of}
+use Rattle.descent.specs.Positions.{position_of}
 use Rattle.children.specs.Skips.{lead, skip_of}
 use Rattle.children.specs.Cursors.{owner_of, accepted, counted, placed, legal}
 use Rattle.plane.proofs.Bounds.{equal_bits}
@@ -32,11 +32,11 @@ uncounted : (l p t m : ℕ) → m ≡ max l 1 → (t - p ≡ m → ⊥) → cond
 uncounted zero p t m e q = ne_eqb (p + 1) t (λ g. q (omega arith))
 uncounted (suc l) p t m e q = rw (eqb-suc-zero l) (ne_eqb (p + suc l) t (λ g. q (omega arith)))
 
--- a cursor by the total and the position p of its number, which has the resolution `fine`; f says whether its owner is a pentagon
-pub record Judged (c : Cursor) (y fine total p : ℕ) (f : Bool) : Type 0 where
+-- a cursor by its owner, and by the total and the position p of its number, which has the resolution `fine`
+pub record Judged (c : Cursor) (y fine owner total p : ℕ) : Type 0 where
   pub under : p < total
   pub not_counted : (m : ℕ) → m ≡ max c.left 1 → (total - p ≡ m → ⊥) → eqb (total - p) m ≡ legal c
-  pub all_counted : (m : ℕ) → m ≡ max c.left 1 → total - p ≡ m → (z : ℕ) (k : ℤ) → SFits w32 c.skip → z ≡ lead (used y fine) → k ≡ cond f (pos z) (negsuc 0) → eqb (of_z w32 c.skip) (of_z w32 k) ≡ legal c
+  pub all_counted : (m : ℕ) → m ≡ max c.left 1 → total - p ≡ m → (z : ℕ) (k : ℤ) → SFits w32 c.skip → z ≡ lead (used y fine) → k ≡ cond (pentagon owner) (pos z) (negsuc 0) → eqb (of_z w32 c.skip) (of_z w32 k) ≡ legal c
 
 -- what `is_legal` reads
 module _ (c : Cursor) (y target fine : ℕ) (h64 : c.number < 2 ^ 64) (v : Valid c.number) (ey : y ≡ c.number) (et : target ≡ fine) (ef : fine ≡ res_of y) where
@@ -56,46 +56,53 @@ module _ (c : Cursor) (y target fine : ℕ) (h64 : c.number < 2 ^ 64) (v : Valid
     pub too_coarse : target < c.own → false ≡ legal c
     too_coarse g = rw (yes_cell, same_target, lt-leb c.own c.target (omega arith))
 
-    module _ (l : c.own ≤ target) (coarse a total p : ℕ) (f : Bool) (ec : coarse ≡ c.own) (ea : a ≡ ancestor_of y coarse) (ep : f ≡ pentagon a)
-        (eo : total ≡ count f (target - c.own)) (er : p ≡ rank f (seg y coarse (res_of y - coarse))) where
+    module _ (l : c.own ≤ target) (coarse owner : ℕ) (ec : coarse ≡ c.own) (eo : owner ≡ ancestor_of y coarse) where
       abbrev n : ℕ
       n = owner_of c
 
       low : c.own ≤ res_of c.number
       low = rw (← target_is) l
 
-      f_is : f ≡ pentagon n
-      f_is = ep ∙ ap pentagon (ea ∙ rw (ey, ec) refl)
+      owner_is : owner ≡ n
+      owner_is = eo ∙ rw (ey, ec) refl
 
-      own_is' : res_of n ≡ c.own
-      own_is' = own_is c.number c.own h64 v low
+      own_is' : res_of owner ≡ coarse
+      own_is' = ap res_of owner_is ∙ own_is c.number c.own h64 v low ∙ sym ec
 
-      total_is : total ≡ count_of n (res_of c.number)
-      total_is = eo ∙ rw (f_is, target_is, own_is') refl
+      -- what `rank_of` and `Descent::new` ask
+      pub owner_low : res_of owner ≤ fine
+      owner_low = omega (arith, own_is')
 
-      p_is : p ≡ position_of n c.number
-      p_is = er ∙ rw (f_is, ey, ec, own_is') refl
+      pub owner_above : (res_of owner ≤ res_of y) × (ancestor_of y (res_of owner) ≡ owner)
+      owner_above = (omega (arith, own_is'), rw own_is' (sym eo))
 
-      among : position_of n c.number < count_of n (res_of c.number)
-      among = (among_children c.number c.own h64 v low).0
+      module _ (total p : ℕ) (eq : total ≡ count_of owner fine) (er : p ≡ position_of owner y) where
+        total_is : total ≡ count_of n (res_of c.number)
+        total_is = eq ∙ rw (owner_is, ef, ey) refl
 
-      under : p < total
-      under = rw (p_is, total_is) among
+        p_is : p ≡ position_of n c.number
+        p_is = er ∙ rw (owner_is, ey) refl
 
-      placed_legal : (b : Bool) → placed n c.number c.left c.skip ≡ b → legal c ≡ b
-      placed_legal b q = rw (yes_cell, same_target, le-leb c.own c.target (omega arith), q) refl
+        among : position_of n c.number < count_of n (res_of c.number)
+        among = (among_children c.number c.own h64 v low).0
 
-      module _ (m : ℕ) (em : m ≡ max c.left 1) where
-        not_counted : (total - p ≡ m → ⊥) → eqb (total - p) m ≡ legal c
-        not_counted g =
-            let u : counted n c.number c.left ≡ false = rw (← p_is, ← total_is) (uncounted c.left p total m em g) in
-            ne_eqb (total - p) m g ∙ sym (placed_legal false (rw u refl))
+        under : p < total
+        under = rw (p_is, total_is) among
 
-        all_counted : total - p ≡ m → (z : ℕ) (k : ℤ) → SFits w32 c.skip → z ≡ lead (used y fine) → k ≡ cond f (pos z) (negsuc 0) → eqb (of_z w32 c.skip) (of_z w32 k) ≡ legal c
-        all_counted g z k fs ez ek =
-            let u : counted n c.number c.left ≡ true = rw (← p_is, ← total_is) (counts c.left p total m under em g) in
-            let q : k ≡ skip_of n c.number = ek ∙ rw (f_is, ez, ey, ← et, target_is) refl in
-            rw q (equal_bits c.skip (skip_of n c.number) fs (skip_fits n c.number)) ∙ sym (placed_legal (equal c.skip (skip_of n c.number)) (rw u refl))
+        placed_legal : (b : Bool) → placed n c.number c.left c.skip ≡ b → legal c ≡ b
+        placed_legal b q = rw (yes_cell, same_target, le-leb c.own c.target (omega arith), q) refl
 
-      pub judged : Judged c y fine total p f
-      judged = record { under = under; not_counted = not_counted; all_counted = all_counted }
+        module _ (m : ℕ) (em : m ≡ max c.left 1) where
+          not_counted : (total - p ≡ m → ⊥) → eqb (total - p) m ≡ legal c
+          not_counted g =
+              let u : counted n c.number c.left ≡ false = rw (← p_is, ← total_is) (uncounted c.left p total m em g) in
+              ne_eqb (total - p) m g ∙ sym (placed_legal false (rw u refl))
+
+          all_counted : total - p ≡ m → (z : ℕ) (k : ℤ) → SFits w32 c.skip → z ≡ lead (used y fine) → k ≡ cond (pentagon owner) (pos z) (negsuc 0) → eqb (of_z w32 c.skip) (of_z w32 k) ≡ legal c
+          all_counted g z k fs ez ek =
+              let u : counted n c.number c.left ≡ true = rw (← p_is, ← total_is) (counts c.left p total m under em g) in
+              let q : k ≡ skip_of n c.number = ek ∙ rw (owner_is, ez, ef, ey) refl in
+              rw q (equal_bits c.skip (skip_of n c.number) fs (skip_fits n c.number)) ∙ sym (placed_legal (equal c.skip (skip_of n c.number)) (rw u refl))
+
+        pub judged : Judged c y fine owner total p
+        judged = record { under = under; not_counted = not_counted; all_counted = all_counted }

@@ -75,8 +75,8 @@ module _ (n t : ℕ) (h64 : n < 2 ^ 64) (v : Valid n) (lo : res_of n ≤ t) (hi 
       go true = ap pos (rw (lead_none (below true m 0) (first_zero m), length_below true m 0) (omega arith))
 
   -- in the words of `fresh`
-  pub fresh_skip : (g : Bool) (r : ℕ) (k : ℤ) → g ≡ f → r ≡ t → k ≡ cond g (pos r) (negsuc 0) → k ≡ skip_of n (child_at n t 0)
-  fresh_skip g r k eg er ek = rw (ek, eg, er) (sym first_skip)
+  pub fresh_skip : (c r : ℕ) (k : ℤ) → c ≡ n → r ≡ t → k ≡ cond (pentagon c) (pos r) (negsuc 0) → k ≡ skip_of n (child_at n t 0)
+  fresh_skip c r k ec er ek = ek ∙ rw (ec, er) (sym first_skip)
 
   -- what `advance` asks
   pub asked : (p : ℕ) → p < count_of n t → (res_of n ≤ t) × (t ≤ 15) × (child_at n t p < 2 ^ 60) × Digits (octs (t - res_of n) (child_at n t p / 8 ^ (15 - t)))

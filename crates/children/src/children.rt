@@ -1,13 +1,14 @@
 // Port of index/iterator/children.rs: the cursor goes from child to child on the packed number.
 ghost use Rattle.std.specs.Prelude.{◌≡◌, cond, ◌≤◌, pos, negsuc};
 ghost use Rattle.index.specs.Layout.{res_of};
+ghost use Rattle.descent.specs.Descendants.{pentagon};
 ghost use Rattle.children.specs.Skips.{Inner, Following};
 ghost use Rattle.children.specs.Cursors.{cursor_after, next_of};
 
 use crate::legal::is_legal;
 use descent::Descent;
-use index::Resolution;
 use index::inside::get_direction;
+use index::{Cell, Resolution};
 
 // From a child of a cell of resolution `own` to the next, and to the resolution where the digit 1 is skipped then, or -1.
 fn advance(number: u64, skip: i32, own: u64, target: u64) -> (u64, i32)
@@ -31,14 +32,15 @@ fn advance(number: u64, skip: i32, own: u64, target: u64) -> (u64, i32)
     (bits, skip)
 }
 
-// The skip where the digits 1 to z are 0 and no more: the digit 1 of resolution z is the next to be skipped.
-pub(crate) fn skip_count(pentagon: bool, z: u64) -> i32
+// The skip below a cell where the digits 1 to z are 0 and no more: the digit 1 of resolution z is the next to be skipped.
+pub(crate) fn skip_count(cell: Cell, z: u64) -> i32
     requires { z ≤ 15 }
-    ensures { result ≡ cond pentagon (pos z) (negsuc 0) }
+    ensures { result ≡ cond (pentagon cell) (pos z) (negsuc 0) }
 {
-    if pentagon { z as i32 } else { -1 }
+    if cell.is_pentagon() { z as i32 } else { -1 }
 }
 
+// As document 01 has it: the skip is -1 where no digit 1 is skipped.
 #[derive(Clone, Copy, Debug, PartialEq, Eq)]
 pub struct Cursor {
     pub own: u32,
@@ -48,7 +50,7 @@ pub struct Cursor {
     pub left: u64,
 }
 
-// What a call gives. The cursor handed back is the following one, or the same where there is no child.
+// What a call gives, as document 01 has it. The cursor handed back is the following one, or the same where there is no child.
 #[derive(Clone, Copy, Debug, PartialEq, Eq)]
 pub enum Given {
     Child(u64, Cursor),
@@ -66,7 +68,7 @@ pub fn fresh(d: Descent) -> Cursor
         own: own as u32,
         target: target as u32,
         number: d.first(),
-        skip: skip_count(cell.is_pentagon(), target),
+        skip: skip_count(cell, target),
         left: d.count(),
     }
 }

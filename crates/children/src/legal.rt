@@ -6,7 +6,7 @@ ghost use Rattle.children.specs.Cursors.{legal};
 
 use crate::Cursor;
 use crate::children::skip_count;
-use descent::count_down;
+use descent::Descent;
 use index::inside::DIGITS_END;
 use index::{Cell, Resolution, check};
 use ranks::rank_of;
@@ -35,9 +35,9 @@ pub(crate) fn is_legal(cursor: Cursor) -> bool
         return false;
     }
     let coarse = Resolution::new_unchecked(own);
-    let pent = y.ancestor(coarse).is_pentagon();
-    let total = count_down(pent, target - own);
-    let p = rank_of(pent, y, coarse);
+    let owner = y.ancestor(coarse);
+    let total = Descent::new(owner, fine).count();
+    let p = rank_of(owner, y);
     // The last child stays when none is left.
-    total - p == cursor.left.max(1) && cursor.skip == skip_count(pent, leading(y, fine))
+    total - p == cursor.left.max(1) && cursor.skip == skip_count(owner, leading(y, fine))
 }

@@ -34,9 +34,12 @@ pub count_pos : (t : Bool) (m : ℕ) → 1 ≤ count t m
 count_pos true m = omega arith
 count_pos false m = sevens_pos m
 
+pub sevens_small : (m : ℕ) → m ≤ 15 → 7 ^ m ≤ 7 ^ 15
+sevens_small m h = pow-le-pow_right (omega arith) h
+
 pub count_small : (t : Bool) (m : ℕ) → m ≤ 15 → count t m ≤ 7 ^ 15
-count_small true m h = let p : 7 ^ m ≤ 7 ^ 15 = pow-le-pow_right (omega arith) h in omega (arith, sevens_pos m)
-count_small false m h = pow-le-pow_right (omega arith) h
+count_small true m h = omega (arith, sevens_pos m, sevens_small m h)
+count_small false m h = sevens_small m h
 
 -- the position one resolution up is in its own count
 pub up : (t : Bool) (m p : ℕ) → p < count t (suc m) → bump t p / 7 < count t m

@@ -1,8 +1,8 @@
 -- Below a pentagon the digits of a position are those of a greater position below a hexagon: 1 + 7 + .. more, as many as there are digits
 -- from the first that is not 0. Assumes nothing.
 use mathlib.Core.Path.{◌≡◌, refl, sym, ap, ◌∙◌}
-use mathlib.Core.Bool.{true, false}
-use mathlib.Core.Logic.{⊎_elim}
+use mathlib.Core.Bool.{Bool, true, false, false≢true}
+use mathlib.Core.Logic.{⊎_elim, ◌⊎◌, inl, inr}
 use Prim.Native.Nat.{ℕ, zero, suc, ◌+◌, ◌-◌, ◌*◌, ◌/◌, ◌%◌, ◌^◌, ◌≤◌, ◌<◌}
 use native.Mathlib.Nat.{pow-suc, pow-le-pow_right, eq-zero-or-pos}
 use native.Mathlib.Decide.{dec_le}
@@ -126,15 +126,11 @@ pub record Stage (m p s : ℕ) : Type 0 where
   pub same : s ≡ ones j
   pub most : p ≤ 5 * s
 
-pub stage_first : (m p s : ℕ) → p < count true m → s ≡ 7 ^ m → Stage m p ((s - 1) / 6)
-stage_first m p s h e =
+pub stage_first : (f : Bool) (m p s : ℕ) → f ≡ true → p < count f m → s ≡ 7 ^ m → Stage m p ((s - 1) / 6)
+stage_first f m p s t h e =
     let q : (s - 1) / 6 ≡ ones m = rw e (ones_six m) in
+    let c : p < count true m = rw t at h in
     record { j = m; few = omega arith; same = q; most = omega (arith, count_ones m) }
-
-pub stage_fits : (m p s : ℕ) → m ≤ 15 → Stage m p s → s ≤ 7 ^ 15
-stage_fits m p s h g =
-    let l : 7 ^ g.j ≤ 7 ^ 15 = pow-le-pow_right (omega arith) {i = g.j} {j = 15} (omega (arith, g.few)) in
-    omega (arith, g.same, sevens_six g.j)
 
 pub stage_next : (m p s : ℕ) → 0 < p → p ≤ 5 * (s / 7) → Stage m p s → Stage m p (s / 7)
 unfolding ones
@@ -144,16 +140,26 @@ stage_next m p s g l h = go h.j h.few h.same
     go zero f e = absurd (let z : ⊥ = omega arith in z)
     go (suc i) f e = record { j = i; few = omega arith; same = omega arith; most = l }
 
-pub stage_last : (m p s : ℕ) → m ≤ 15 → 0 < p → 5 * (s / 7) < p → Stage m p s → (octal (below true m p) ≡ octal (below false 16 (p + s))) × (p + s < 7 ^ 16)
+-- q is the position of the same digits below a hexagon
+abbrev pub Shifted : Bool → ℕ → ℕ → ℕ → Type 0
+Shifted f m p q = (octal (below f m p) ≡ octal (below false 16 q)) × (q < 7 ^ 16)
+
+pub stage_last : (f : Bool) (m p s : ℕ) → f ≡ true → m ≤ 15 → 0 < p → 5 * (s / 7) < p → Stage m p s → Shifted f m p (p + s)
 unfolding ones
-stage_last m p s k g l h = go h.j h.few h.same h.most
+stage_last f m p s t k g l h = rw t (go h.j h.few h.same h.most)
   where
-    end : (j : ℕ) → j ≤ m → s ≡ ones j → Led p j → (octal (below true m p) ≡ octal (below false 16 (p + s))) × (p + s < 7 ^ 16)
+    end : (j : ℕ) → j ≤ m → s ≡ ones j → Led p j → Shifted true m p (p + s)
     end j f e d =
         let r : 7 ^ j ≤ 7 ^ m = pow-le-pow_right (omega arith) f in
         let t = octal_sixteen m (p + ones j) k (omega (arith, led_most p j d)) in
         rw e (ap octal (shifted m p j d) ∙ t.1, t.0)
 
-    go : (j : ℕ) → j ≤ m → s ≡ ones j → p ≤ 5 * s → (octal (below true m p) ≡ octal (below false 16 (p + s))) × (p + s < 7 ^ 16)
+    go : (j : ℕ) → j ≤ m → s ≡ ones j → p ≤ 5 * s → Shifted true m p (p + s)
     go zero f e n = absurd (let z : ⊥ = omega arith in z)
     go (suc i) f e n = end (suc i) f e (omega arith, omega arith)
+
+-- below no pentagon, or at position 0, nothing is deleted
+pub none_deleted : (f : Bool) (m p : ℕ) → m ≤ 15 → p < count f m → (f ≡ false) ⊎ ((f ≡ true) × (p ≡ 0)) → Shifted f m p p
+none_deleted false m p k h c = let t = octal_sixteen m p k h in (t.1, t.0)
+none_deleted true m p k h (inl e) = absurd (false≢true (sym e))
+none_deleted true m p k h (inr (e, z)) = rw z (octal_zero true m ∙ sym (octal_zero false 16), omega arith)

@@ -15,7 +15,7 @@ use Rattle.index.proofs.View.{packed, fit, first_used, pack_fits, pack_valid, pa
 use Rattle.descent.specs.Descendants.{pentagon, count_of}
 use Rattle.descent.specs.Positions.{below, child_at}
 use Rattle.descent.proofs.Strings.{octal_append}
-use Rattle.descent.proofs.Counts.{count_small, count_pos}
+use Rattle.descent.proofs.Counts.{count_pos}
 use Rattle.descent.proofs.Below.{length_below, octal_zero, fit_child}
 
 -- y the own digits, x those of the position; s = m u is the place below the own digits, u the place of the finest
@@ -79,9 +79,6 @@ module _ (n t : ℕ) (h64 : n < 2 ^ 64) (v : Valid n) (lo : res_of n ≤ t) (hi 
     pub child_used : used (child_at n t p) t ≡ ds
     unfolding child_at
     child_used = subst (λ (k : ℕ). used (pack (base_of n) ds) k ≡ ds) long (pack_used _ _ fit_here)
-
-    pub pos_fits : p < 2 ^ 62
-    pos_fits = omega (arith, count_small f m (omega arith))
 
     module _ (own unit span : ℕ) (eo : own ≡ res_of n) (eu : unit ≡ 8 ^ (15 - t)) (es : span ≡ 8 ^ (15 - own)) where
       product : span ≡ 8 ^ (t - own) * unit

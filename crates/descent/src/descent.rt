@@ -4,7 +4,7 @@ ghost use Rattle.index.specs.Layout.{Valid, res_of};
 ghost use Rattle.descent.specs.Descendants.{count_of};
 ghost use Rattle.descent.specs.Positions.{child_at};
 
-use crate::count_down;
+use crate::sevens;
 use index::inside::ONE_RESOLUTION;
 use index::{Cell, Resolution};
 
@@ -46,10 +46,15 @@ impl Descent {
     }
 
     // How many descendants the cell has.
+    #[tactic(auto, using(crate::proofs::Counts::sevens_pos, crate::proofs::Counts::sevens_small))]
     pub fn count(&self) -> u64
         ensures { result ≡ count_of self.now.cell self.now.target }
     {
-        count_down(self.cell.is_pentagon(), self.steps())
+        let s = sevens(self.steps());
+        if self.cell.is_pentagon() {
+            return 1 + 5 * (s - 1) / 6;
+        }
+        s
     }
 
     // The first child: 0 in the places between the resolutions.

@@ -1,8 +1,8 @@
 // The descendants of a cell: how many, and the first.
 #![tactic(auto)]
 
-mod count;
 mod descent;
+mod powers;
 
-pub use count::{count_down, sevens};
 pub use descent::Descent;
+pub use powers::sevens;

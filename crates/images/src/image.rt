@@ -42,6 +42,7 @@ fn shifted(p: IJK, ccw: bool) -> IJK
 }
 
 // The three images have one shape: a-fold the point, and its components moved by one place.
+// The bound stands in each: a type for it would be no plainer, since an entry has it of its range and a centre of a bound of its own.
 fn image(a: u8, p: IJK, ccw: bool) -> IJK
     requires { (a ≤ 3) × (Within 250000000 p) }
     ensures { result ≡ points.normal (weighed a p (beside ccw p)) }

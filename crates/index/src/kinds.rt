@@ -112,6 +112,7 @@ impl Digit {
         ensures value { result ≡ self }
         ensures bound { self ≤ 6 }
     {
-        self.0
+        let Digit(d) = self;
+        d
     }
 }

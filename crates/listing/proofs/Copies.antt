@@ -6,7 +6,7 @@ use lib.ListN.{get_or-append}
 use lib.Seq.{drop-append-add}
 use Rattle.descent.specs.Positions.{tab}
 use Rattle.listing.specs.Copies.{copies, ramp, stairs}
-use Rattle.descent.proofs.Tab.{length_tab, tab_length, tab_none, tab_more}
+use Rattle.descent.proofs.Tab.{length_tab, tab_none, tab_more}
 use Rattle.descent.proofs.Whole.{get_or_tab}
 
 -- a write at j in the part is one at i + j
@@ -23,22 +23,6 @@ length_copies l a (suc k) d s = simp length-set (length_copies l a k d s)
 
 pub copies_length : (l l' : List ℕ) (a k d s : ℕ) → l' ≡ copies l a k d s → length l' ≡ length l
 copies_length l l' a k d s e = ap length e ∙ length_copies l a k d s
-
-length_ramp : (l : List ℕ) (i q s k : ℕ) → length (ramp l i q s k) ≡ length l
-unfolding ramp
-length_ramp l i q s zero = refl
-length_ramp l i q s (suc k) = simp length-set (length_ramp l i q s k)
-
-pub ramp_length : (l l' : List ℕ) (i q s k : ℕ) → l' ≡ ramp l i q s k → length l' ≡ length l
-ramp_length l l' i q s k e = ap length e ∙ length_ramp l i q s k
-
-length_stairs : (l : List ℕ) (i q s k : ℕ) → length (stairs l i q s k) ≡ length l
-unfolding stairs
-length_stairs l i q s zero = refl
-length_stairs l i q s (suc k) = length_ramp (stairs l i q s k) (i + 7 * k) (q + k * (8 * s)) s 7 ∙ length_stairs l i q s k
-
-pub stairs_length : (l l' : List ℕ) (i q s k : ℕ) → l' ≡ stairs l i q s k → length l' ≡ length l
-stairs_length l l' i q s k e = ap length e ∙ length_stairs l i q s k
 
 module _ (f : ℕ → ℕ) (b : List ℕ) where
   pub put : (v : ℕ) → 0 < length b → v ≡ f 0 → set b 0 v ≡ tab f 1 ++ drop 1 b
@@ -82,9 +66,6 @@ module _ (f : ℕ → ℕ) (b : List ℕ) where
       rw n (ramped (stairs l i q s k) (i + 7 * k) (q + k * (8 * s)) s 7 (omega arith) (λ j w. g k j (omega arith) w) ih)
 
   module _ (l : List ℕ) (k : ℕ) (e : l ≡ tab f k ++ drop k b) where
-    pub long_as : k ≤ length b → length l ≡ length b
-    long_as h = ap length e ∙ tab_length f b k h
-
     -- one call after another
     pub again : l ≡ tab f k ++ drop k l
     again = e ∙ ap (λ (x : List ℕ). tab f k ++ x) (sym (ap (drop k) e ∙ drop_at (tab f k) (drop k b) k (length_tab f k)))

@@ -56,6 +56,7 @@ struct Numbers {
     ghost low: { first < 2 ^ 63 },
 }
 
+// A hexagon and a pentagon have functions of their own: the blocks of a level lie otherwise, so that one function would branch at each step.
 impl Numbers {
     ghost use Rattle.listing.specs.Filled.{Filled};
 

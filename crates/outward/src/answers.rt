@@ -1,4 +1,4 @@
-// The structs that exports hand out, each made of what an entry answered.
+// The structs that exports hand out, each made of what an entry answered. The C interface: a refusal's number, or 0, beside the values.
 ghost use Rattle.std.specs.Prelude.{◌≡◌, ◌<◌};
 ghost use Rattle.index.specs.Refusals.{number_of};
 ghost use Rattle.index.specs.Told.{told};
@@ -169,7 +169,7 @@ impl From<Result<Walked, Refusal>> for RgWalked {
     }
 }
 
-// No `From`, which may ask nothing: the turn number and the direction have to fit 16 bits.
+// A `From` may ask nothing, and would be no plainer: the turn number and the direction have to fit 16 bits.
 pub fn stepped_out(a: Result<Stepped, Refusal>) -> RgStepped
     requires { (stepped_out (stepped_told a)).turn < 65536 }
     ensures { result ≡ stepped_out (stepped_told a) }

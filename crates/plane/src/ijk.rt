@@ -30,7 +30,8 @@ pub fn point_in_range(p: IJK) -> bool
     in_range(p.i) && in_range(p.j) && in_range(p.k)
 }
 
-// The same point in normal form.
+// The same point in normal form. The bound stands here and in two functions that pass it on: a type for it would be no plainer, since each caller
+// has it of a bound of its own, and would make the value for one call.
 pub fn normalize(p: IJK) -> IJK
     requires { Within 1000000000 p }
     ensures { result ≡ points.normal p }

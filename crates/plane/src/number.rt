@@ -10,7 +10,7 @@ ghost use Rattle.plane.specs.Strings.{odd};
 pub fn in_range(n: i32) -> bool
     ensures { result ≡ in_range n }
 {
-    n.unsigned_abs() <= 100000000
+    (-100_000_000..=100_000_000).contains(&n)
 }
 
 // a - b

@@ -4,18 +4,19 @@ ghost use Rattle.index.specs.Layout.{res_of};
 ghost use Rattle.index.specs.View.{octal};
 ghost use Rattle.index.specs.Ancestor.{ancestor_of};
 ghost use Rattle.index.specs.Told.{told};
-ghost use Rattle.descent.specs.Descendants.{pentagon, count, count_of};
-ghost use Rattle.descent.specs.Positions.{below, child_at, rank as rankOf, seg, found_of};
+ghost use Rattle.descent.specs.Descendants.{pentagon, count_of};
+ghost use Rattle.descent.specs.Positions.{below, child_at, position_of, found_of};
 
 use descent::{Descent, sevens};
 use index::{Cell, Refusal, Resolution};
 
 // The position p counted with the deleted ones: that of the same digits below a hexagon.
-fn with_deleted(pent: bool, m: u64, p: u64) -> u64
-    requires { (m ≤ 15) × (p < count pent m) }
-    ensures { (octal (below pent m p) ≡ octal (below false 16 result)) × (result < 7 ^ 16) }
+fn with_deleted(d: &Descent, p: u64) -> u64
+    requires { p < count_of d.now.cell d.now.target }
+    ensures { (octal (below (pentagon d.now.cell) (d.now.target - res_of d.now.cell) p) ≡ octal (below false 16 result)) × (result < 7 ^ 16) }
 {
-    if !pent || p == 0 {
+    let m = d.steps();
+    if !d.cell().is_pentagon() || p == 0 {
         return p;
     }
     let mut deleted = (sevens(m) - 1) / 6;
@@ -46,7 +47,7 @@ pub fn child_at(d: Descent, p: u64) -> Cell
     requires { p < count_of d.cell d.target }
     ensures { result ≡ child_at d.cell d.target p }
 {
-    let q = with_deleted(d.cell().is_pentagon(), d.steps(), p);
+    let q = with_deleted(&d, p);
     Cell::new_unchecked(d.first() + d.target().place() * in_eights(q))
 }
 
@@ -64,17 +65,19 @@ fn in_sevens(v: u64) -> u64
     v3 % 0x100_0000 + 5764801 * (v3 >> 24)
 }
 
-// The position of y below its ancestor of resolution `own`; below a pentagon less what the deleted positions take.
-pub fn rank_of(pent: bool, y: Cell, own: Resolution) -> u64
-    requires coarse { own ≤ res_of y }
-    requires owner { pent ≡ pentagon (ancestor_of y own) }
-    ensures { result ≡ rankOf pent (seg y own (res_of y - own)) }
+// The position of y below its ancestor c; below a pentagon less what the deleted positions take. Inlined, since its callers read
+// the kind and the resolution of c too.
+#[inline]
+pub fn rank_of(c: Cell, y: Cell) -> u64
+    requires coarse { res_of c ≤ res_of y }
+    requires owner { ancestor_of y (res_of c) ≡ c }
+    ensures { result ≡ position_of c y }
 {
     let fine = y.resolution().number();
-    let m = fine - own.number();
+    let m = fine - c.resolution().number();
     let v = (y.number() >> (3 * (15 - fine))) % Resolution::new_unchecked(15 - m).place();
     let p = in_sevens(v);
-    if pent {
+    if c.is_pentagon() {
         let z = u64::leading_zeros(v) as u64;
         let taken = (sevens((66 - z) / 3) - 1) / 6;
         return p - taken;
@@ -91,5 +94,5 @@ pub fn position(c: Cell, y: Cell) -> Result<u64, Refusal>
     if y.resolution() < own || y.ancestor(own) != c {
         return Err(Refusal::NotUnder);
     }
-    Ok(rank_of(c.is_pentagon(), y, own))
+    Ok(rank_of(c, y))
 }

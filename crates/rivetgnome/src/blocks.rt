@@ -1,4 +1,4 @@
-// Exports over a block of numbers.
+// Exports over a block of numbers. The C interface: values and refusals are two blocks.
 ghost use Rattle.std.specs.Prelude.{◌≡◌};
 ghost use Rattle.index.specs.Check.{check_of};
 ghost use Rattle.block_entries.specs.Blocks.{block_of, values_after, refusals_after};

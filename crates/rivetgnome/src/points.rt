@@ -1,4 +1,4 @@
-// Exports on directions and points.
+// Exports on directions and points. The C interface: a point is loose numbers, and each sense of turning has a name.
 ghost use Rattle.std.specs.Prelude.{◌≡◌, true, false};
 ghost use Rattle.plane.specs.Directions.{triple};
 ghost use Rattle.plane.specs.Points.{pair};

@@ -1,4 +1,4 @@
-// Exports on turns of cells, centres, the walk and the step.
+// Exports on turns of cells, centres, the walk and the step. The C interface: a point is loose numbers, and each sense of turning has a name.
 ghost use Rattle.std.specs.Prelude.{◌≡◌, true, false};
 ghost use Rattle.step_entries.specs.Steps.{turn_of, pentagon_turn_of, centre_of, walk_of, step_of};
 ghost use Rattle.outward.specs.Exports.{number_out, point_out, walked_out, stepped_out};

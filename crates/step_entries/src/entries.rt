@@ -10,6 +10,8 @@ use entry::judge::{locate, onward, rotation};
 use index::{Refusal, Resolution};
 use plane::ijk::IJK;
 
+// Each sense has its own copy: shared, this is a call with its answer in memory.
+#[inline(always)]
 pub fn turn(raw: u64, count: u32, ccw: bool) -> Result<u64, Refusal>
     ensures { told result ≡ turn_of ccw raw count }
 {
@@ -18,6 +20,7 @@ pub fn turn(raw: u64, count: u32, ccw: bool) -> Result<u64, Refusal>
     Ok(turns::rotate60(cell, by))
 }
 
+#[inline(always)]
 pub fn pentagon_turn(raw: u64, ccw: bool) -> Result<u64, Refusal>
     ensures { told result ≡ pentagon_turn_of ccw raw }
 {

@@ -90,6 +90,9 @@ flipped x =
 
 -- words put together
 module _ (x : ℕ) where
+  self : x < 2 ^ 45 → Each (λ d. d) x x
+  self h = record { short = h; each = λ r l u. refl }
+
   none : Each (λ d. 0) x 0
   none = record { short = omega arith; each = λ r l u. rw (zero-div (2 ^ (3 * (15 - r)))) }
 
@@ -105,18 +108,20 @@ module _ (x : ℕ) where
   alike f g y e p = record { short = p.short; each = λ r l u. p.each r l u ∙ e (digit x r) (mod-lt _ (omega arith)) }
 
 -- one digit: six counts and the count 6, eight values
-one_digit : (c d : ℕ) → c < 7 → d < 8 → bit_xor (round (2 * c % 3) d) (cond (eqb (c % 2) 1) (flip d) 0) ≡ turns true c d
+one_digit : (c d : ℕ) → c < 7 → d < 8 → bit_xor (cond (eqb (c % 3) 0) d (cond (eqb (c % 3) 1) (round 2 d) (round 1 d))) (cond (eqb (c % 2) 1) (flip d) 0) ≡ turns true c d
 one_digit c d h l =
     at_eq 8 (word c) (turns true c) (at 7 (λ (c : ℕ). every 8 (λ d. eqb (word c d) (turns true c d))) tt c h) d l
   where
     word : ℕ → ℕ → ℕ
-    word c d = bit_xor (round (2 * c % 3) d) (cond (eqb (c % 2) 1) (flip d) 0)
+    word c d = bit_xor (cond (eqb (c % 3) 0) d (cond (eqb (c % 3) 1) (round 2 d) (round 1 d))) (cond (eqb (c % 2) 1) (flip d) 0)
 
 -- in the words of the calls
-pub word_turned : (x c m f g : ℕ) → c ≤ 6 → Each (round (2 * c % 3)) x m → Each flip x f → g ≡ cond (eqb (c % 2) 1) f 0 → Each (turns true c) x (bit_xor m g)
-word_turned x c m f g l p q e =
-    let odd : Each (λ d. cond (eqb (c % 2) 1) (flip d) 0) x (cond (eqb (c % 2) 1) f 0) = either x flip _ (eqb (c % 2) 1) f 0 q (none x) in
-    rw e (alike x _ _ _ (λ d h. one_digit c d (omega arith) h) (changed x _ _ _ _ p odd))
+pub word_turned : (x c a b m e f g : ℕ) → x < 2 ^ 45 → c ≤ 6 → Each (round 2) x a → Each (round 1) x b → m ≡ cond (eqb (c % 3) 1) a b → e ≡ cond (eqb (c % 3) 0) x m → Each flip x f → g ≡ cond (eqb (c % 2) 1) f 0 →
+    Each (turns true c) x (bit_xor e g)
+word_turned x c a b m e f g h l pa pb em ee pf eg =
+    let low : Each (λ d. cond (eqb (c % 3) 0) d (cond (eqb (c % 3) 1) (round 2 d) (round 1 d))) x (cond (eqb (c % 3) 0) x (cond (eqb (c % 3) 1) a b)) = either x _ _ (eqb (c % 3) 0) x _ (self x h) (either x (round 2) (round 1) (eqb (c % 3) 1) a b pa pb) in
+    let odd : Each (λ d. cond (eqb (c % 2) 1) (flip d) 0) x (cond (eqb (c % 2) 1) f 0) = either x flip _ (eqb (c % 2) 1) f 0 pf (none x) in
+    rw (ee, em, eg) (alike x _ _ _ (λ d g. one_digit c d (omega arith) g) (changed x _ _ _ _ low odd))
 
 -- clockwise turns are the others of six
 pub sense : (o : Bool) (k c : ℕ) (x y : ℕ) → k ≤ 5 → c ≡ cond o k (6 - k) → Each (turns true c) x y → Each (turns o k) x y

@@ -20,7 +20,7 @@ fn low_bits(k: u64) -> u64
     (ONES << k) - ONES
 }
 
-// Each digit's bits moved round by k places, down.
+// Each digit's bits moved round by k places, down. Where k is written out, no shift is by a variable.
 #[tactic(auto, using(crate::proofs::Wordwise::moved))]
 fn bits_round(x: u64, k: u64) -> u64
     requires { k ≤ 2 }
@@ -39,11 +39,13 @@ fn flips(x: u64) -> u64
 
 // Fifteen digits turned counter-clockwise. One turn moves the bits 4i + 2j + k of each round by two places and changes each bit.
 fn turn_word(x: u64, count: u64) -> u64
-    requires { count ≤ 6 }
+    requires { (x < 2 ^ 45) × (count ≤ 6) }
     ensures { Each (turns true count) x result }
 {
-    let places = 2 * count % 3;
-    bits_round(x, places) ^ sel(count % 2 == 1, flips(x), 0)
+    let third = count % 3;
+    let moved = sel(third == 1, bits_round(x, 2), bits_round(x, 1));
+    let even = sel(third == 0, x, moved);
+    even ^ sel(count % 2 == 1, flips(x), 0)
 }
 
 // A number with each used digit turned; under a pentagon base cell it need be no cell, before or after.

@@ -48,7 +48,7 @@ static NEW_ADJUSTMENT_III: [[u8; 7]; 7] = [
     [0, 0, 6, 0, 4, 0, 6],
 ];
 
-// The new digit where a direction meets an old one, and the direction that goes on upward.
+// The new digit where a direction meets an old one, and the direction that goes on upward: two functions, since they are of two kinds.
 fn new_digit(o: bool, old: Digit, way: Direction) -> Digit
     ensures { result ≡ new_digit o old way }
 {

@@ -20,11 +20,24 @@ returns-then-target-cursor c =
     (λ (h, g). judging.too_coarse s c.in-Ok.y _ _ (omega arith) k.1 k.0 c.number-target.ensures.value c.resolution-fine.ensures (omega arith) g)
     c.then-target-cursor.either
 
-judged : (c : After-rank_of-p) → Judged c.args.cursor c.in-Ok.y c.resolution-fine.result c.count_down-total.result c.rank_of-p.result c.is_pentagon-pent.result
+pub new-requires : goal.new-requires
+new-requires c =
+    let k = cell (goal.at.new-requires c).In-Ok in
+    judging.owner_low c.args.cursor c.in-Ok.y _ _ (omega arith) k.1 k.0 c.number-target.ensures.value c.resolution-fine.ensures c.if-target-cursor.false c.if-target-own.false
+    _ _ c.new_unchecked-coarse.ensures c.ancestor-owner.ensures
+
+pub rank_of-p-requires : goal.rank_of-p-requires
+rank_of-p-requires c =
+    let k = cell (goal.at.rank_of-p-requires c).In-Ok in
+    let h = judging.owner_above c.args.cursor c.in-Ok.y _ _ (omega arith) k.1 k.0 c.number-target.ensures.value c.resolution-fine.ensures c.if-target-cursor.false c.if-target-own.false
+    _ _ c.new_unchecked-coarse.ensures c.ancestor-owner.ensures in
+    record { coarse = h.0; owner = h.1 }
+
+judged : (c : After-rank_of-p) → Judged c.args.cursor c.in-Ok.y c.resolution-fine.result c.ancestor-owner.result c.count-total.result c.rank_of-p.result
 judged c =
     let k = cell (goal.at.overflow_sub-total c).In-Ok in
     judging.judged c.args.cursor c.in-Ok.y _ _ (omega arith) k.1 k.0 c.number-target.ensures.value c.resolution-fine.ensures c.if-target-cursor.false c.if-target-own.false
-    _ _ _ _ _ c.new_unchecked-coarse.ensures c.ancestor.ensures c.is_pentagon-pent.ensures c.count_down-total.ensures c.rank_of-p.ensures
+    _ _ c.new_unchecked-coarse.ensures c.ancestor-owner.ensures _ _ (rw (← c.new.ensures.cell, ← c.new.ensures.target) c.count-total.ensures) c.rank_of-p.ensures
 
 pub overflow_sub-total : goal.overflow_sub-total
 overflow_sub-total c = let h = (judged c).under in omega (arith, h)

@@ -10,7 +10,7 @@ sum : (c : After-in_eights) → c.first.result + c.place.result * c.in_eights.re
 sum c =
     let d = c.args.d in
     let f = c.first.ensures in
-    rw (c.in_eights.ensures, ← c.with_deleted-q.ensures.0, c.steps.ensures.value, c.is_pentagon.ensures, c.cell.ensures, f.value, c.place.ensures.value, c.target.ensures)
+    rw (c.in_eights.ensures, ← c.with_deleted-q.ensures.0, f.value, c.place.ensures.value, c.target.ensures)
     (child_sum d.cell d.target (omega arith) f.valid d.finer f.bound c.args.p c.requires)
 
 small : (c : After-in_eights) → c.first.result + c.place.result * c.in_eights.result < 2 ^ 60

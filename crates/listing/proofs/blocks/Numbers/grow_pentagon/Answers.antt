@@ -29,12 +29,6 @@ pub loop-preserved : goal.loop-preserved
 loop-preserved c = levels.pentagon_turn _ _ _ _ _ _ _ c.requires.room c.loop.invariant c.loop-test.true _ _ _ c.spread.ensures c.spread-in-loop.ensures c.spread-in-loop-2.ensures
 
 -- past the last
-pub spread-requires-2 : goal.spread-requires-2
-spread-requires-2 c =
-    let z : c.loop.counter + 1 ≡ c.args.self.levels = omega (arith, c.loop.auto, c.loop-test.false, c.requires.deep) in
-    let r = levels.pentagon_last _ _ _ _ _ _ _ c.requires.room c.loop.invariant z in
-    (c.loop.invariant.one, omega arith, omega arith, r.1)
-
 pub returns : goal.returns
 returns c =
     let z : c.loop.counter + 1 ≡ c.args.self.levels = omega (arith, c.loop.auto, c.loop-test.false, c.requires.deep) in

@@ -1,6 +1,5 @@
-// How many descendants lie a number of resolutions down.
+// The powers of seven.
 ghost use Rattle.std.specs.Prelude.{◌≡◌, ◌^◌, ◌≤◌};
-ghost use Rattle.descent.specs.Descendants.{count};
 
 // No array: it takes as many lines, and a proof of its own.
 pub fn sevens(m: u64) -> u64
@@ -25,15 +24,4 @@ pub fn sevens(m: u64) -> u64
         14 => 678223072849,
         _ => 4747561509943,
     }
-}
-
-pub fn count_down(pentagon: bool, m: u64) -> u64
-    requires { m ≤ 15 }
-    ensures { result ≡ count pentagon m }
-{
-    let s = sevens(m);
-    if pentagon {
-        return 1 + 5 * (s - 1) / 6;
-    }
-    s
 }
