@@ -1,31 +1,33 @@
 // A line's answer, written.
-use replies::out::{Buffer, Out};
-use replies::{lists, out, say};
+use replies::lists;
+use replies::out::Out;
+use replies::say::{At, Cell, Next, Pair, Point, Step, Told, Truth, Walk};
 use requests::Answer;
+use std::fmt;
+use std::fmt::Write;
 use words::Line;
 
-pub fn answer(buf: &mut Buffer, o: Out, line: Line) -> Out {
-    let answered = written(buf, o, requests::answer(line));
-    out::byte(buf, answered, b'\n')
+pub fn answer(out: &mut Out, line: &Line) -> fmt::Result {
+    match requests::answer(line) {
+        Some(answer) => write_answer(out, answer)?,
+        None => write!(out, "input")?,
+    }
+    out.write_str("\n")
 }
 
-fn written(buf: &mut Buffer, o: Out, answer: Answer) -> Out {
+fn write_answer(out: &mut Out, answer: Answer) -> fmt::Result {
     match answer {
-        Answer::Malformed => say::malformed(buf, o),
-        Answer::Checked(a) => say::checked(buf, o, a),
-        Answer::Number(a) => say::number(buf, o, a),
-        Answer::List(raw, target) => lists::list(buf, o, raw, target),
-        Answer::ListInRoom(raw, target, room) => {
-            lists::in_room(buf, o, raw, target, false, room)
-        }
-        Answer::ShortInRoom(raw, room) => lists::in_room(buf, o, raw, 0, true, room),
-        Answer::Cell(a) => say::cell(buf, o, a),
-        Answer::Point(a) => say::point(buf, o, a),
-        Answer::Pair(a) => say::pair(buf, o, a),
-        Answer::Truth(a) => say::truth(buf, o, a),
-        Answer::Started(a) => say::started(buf, o, a),
-        Answer::Given(a) => say::given(buf, o, a),
-        Answer::Walked(a) => say::walked(buf, o, a),
-        Answer::Stepped(a) => say::stepped(buf, o, a),
+        Answer::Checked(a) => write!(out, "{}", Told(a.map(|()| "ok"))),
+        Answer::Number(a) => write!(out, "{}", Told(a)),
+        Answer::List(raw, target) => lists::list(out, raw, target),
+        Answer::ListInRoom(raw, target, room) => lists::list_in_room(out, raw, target, room),
+        Answer::Cell(a) => write!(out, "{}", Told(a.map(Cell))),
+        Answer::Point(a) => write!(out, "{}", Told(a.map(Point))),
+        Answer::Pair(a) => write!(out, "{}", Told(a.map(Pair))),
+        Answer::Truth(a) => write!(out, "{}", Told(a.map(Truth))),
+        Answer::Started(a) => write!(out, "{}", Told(a.map(At))),
+        Answer::Given(a) => write!(out, "{}", Next(a)),
+        Answer::Walked(a) => write!(out, "{}", Told(a.map(Walk))),
+        Answer::Stepped(a) => write!(out, "{}", Told(a.map(Step))),
     }
 }

@@ -2,23 +2,14 @@
 use std::io::Stdout;
 
 pub fn help(to: Stdout, word: &[u8]) {
-    if word == b"-h".as_slice() || word == b"--help".as_slice() {
-        return forms(to);
-    }
-    say(
-        to,
-        b"hexline: takes no argument but --help; requests come on standard input\n",
-    );
+    let text = match word {
+        b"-h" | b"--help" => FORMS,
+        _ => "hexline: takes no argument but --help; requests come on standard input\n",
+    };
+    let _ = to.write_all(text.as_bytes());
 }
 
-fn say(to: Stdout, bytes: &[u8]) {
-    let _ = to.write_all(bytes);
-}
-
-fn forms(to: Stdout) {
-    say(
-        to,
-        b"hexline answers each line of standard input, a request, with one line.
+const FORMS: &str = "hexline answers each line of standard input, a request, with one line.
 
 check H                      ok
 count H T                    a count
@@ -50,6 +41,4 @@ down7, down3, up7 or turnpoint, then W I J K: a point
 H is a cell, 1 to 16 hexadecimal digits in lower case. All else is decimal: T and R a
 resolution, P a position, N a count, D a direction, I J K a point. W is ccw or cw.
 What is refused: refusal N. A line of no such form: input.
-",
-    );
-}
+";

@@ -1,4 +1,4 @@
-// Answers as bytes, on their way to standard output.
+// Answers as text, on their way to standard output.
 #![tactic(auto)]
 
 pub mod lists;

@@ -1,42 +1,31 @@
 // Lists of cells. They are made where they are written, since they need room.
-use crate::out::{Buffer, Out};
-use crate::{out, say};
+use crate::out::Out;
+use crate::say::{Cells, Told};
+use std::fmt;
+use std::fmt::Write;
 
 // The most elements that a request may have room for, and what they hold before it.
 const ROOM: usize = 8192;
 
 const UNTOUCHED: u64 = 0xeeee_eeee_eeee_eeee;
 
-pub fn list(buf: &mut Buffer, o: Out, raw: u64, target: u32) -> Out {
+pub fn list(out: &mut Out, raw: u64, target: u32) -> fmt::Result {
     let mut cells = [UNTOUCHED; ROOM];
-    let a = hexagons::list(raw, target, &mut cells);
-    match a {
-        hexagons::Number::Is(n) => say::cells(buf, o, &cells, n),
-        hexagons::Number::Refused(r) => say::refused(buf, o, r),
+    match hexagons::list(raw, target, &mut cells) {
+        Ok(n) => write!(out, "{}", Cells(&cells[..ROOM.min(n as usize)])),
+        Err(refusal) => write!(out, "{refusal}"),
     }
 }
 
-pub fn in_room(buf: &mut Buffer, o: Out, raw: u64, target: u32, short: bool, room: u32) -> Out {
-    let n = room as usize;
-    if n > ROOM {
-        return say::malformed(buf, o);
-    }
+// The answer, and every element afterwards; malformed where so many have no room. A short listing has no target.
+pub fn list_in_room(out: &mut Out, raw: u64, target: Option<u32>, room: u32) -> fmt::Result {
     let mut cells = [UNTOUCHED; ROOM];
-    listed(buf, o, raw, target, short, &mut cells[..n])
-}
-
-// The answer, and every element afterwards. A short listing has no target.
-fn listed(buf: &mut Buffer, o: Out, raw: u64, target: u32, short: bool, cells: &mut [u64]) -> Out {
-    if short {
-        let a = hexagons::list_short(raw, cells);
-        return afterwards(buf, o, a, cells);
-    }
-    let a = hexagons::list(raw, target, cells);
-    afterwards(buf, o, a, cells)
-}
-
-fn afterwards(buf: &mut Buffer, o: Out, a: hexagons::Number, cells: &[u64]) -> Out {
-    let said = say::number(buf, o, a);
-    let parted = out::text(buf, said, b" : ");
-    say::cells(buf, parted, cells, cells.len() as u64)
+    let Some(cells) = cells.get_mut(..room as usize) else {
+        return write!(out, "input");
+    };
+    let told = match target {
+        Some(target) => hexagons::list(raw, target, cells),
+        None => hexagons::list_short(raw, cells),
+    };
+    write!(out, "{} : {}", Told(told), Cells(cells))
 }

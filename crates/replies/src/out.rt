@@ -1,105 +1,56 @@
-// Answers on their way to standard output, in a lent buffer.
-ghost use Rattle.std.specs.Prelude.{◌≡◌, nat_abs};
+// Answers on their way to standard output.
+ghost use Rattle.std.specs.Prelude.{◌≡◌, ◌≤◌};
 
+use std::fmt;
 use std::io::Stdout;
 
-// The room for the answers that wait, and where they go.
-#[derive(Drop)]
-pub struct Buffer {
-    // One byte more than a u16 counts, so that no position is out of range.
-    bytes: [u8; 65536],
-    to: Stdout,
-}
-
-impl Buffer {
-    pub fn new(to: Stdout) -> Self {
-        Buffer {
-            bytes: [0; 65536],
-            to,
-        }
-    }
-}
-
 // The first `at` bytes wait. After a write that fails nothing is written any more.
-#[derive(Clone, Copy)]
+// Not std's `BufWriter`: it takes its buffer from an allocator, and this program has none.
+#[derive(Drop)]
 pub struct Out {
-    at: u16,
+    bytes: [u8; 65536],
+    at: usize,
     open: bool,
+    to: Stdout,
+    ghost room: { at ≤ 65536 },
 }
 
 impl Out {
-    pub fn new() -> Self {
-        Out { at: 0, open: true }
+    pub fn new(to: Stdout) -> Self {
+        Out {
+            bytes: [0; 65536],
+            at: 0,
+            open: true,
+            to,
+        }
     }
 
-    pub fn is_open(self) -> bool {
+    pub fn is_open(&self) -> bool {
         self.open
     }
-}
 
-pub fn flush(buf: &Buffer, o: Out) -> Out
-    ensures { result.at ≡ 0 }
-{
-    let at = o.at as usize;
-    if o.open {
-        let open = buf.to.write_all(&buf.bytes[..at]).is_ok();
-        return Out { at: 0, open };
+    pub fn flush(&mut self)
+        ensures { self.new.at ≡ 0 }
+    {
+        self.open = self.open && self.to.write_all(&self.bytes[..self.at]).is_ok();
+        self.at = 0;
     }
-    Out { at: 0, open: false }
-}
 
-pub fn byte(buf: &mut Buffer, o: Out, b: u8) -> Out {
-    let at = o.at;
-    if at == u16::MAX {
-        let empty = flush(buf, o);
-        buf.bytes[0] = b;
-        return Out {
-            at: 1,
-            open: empty.open,
-        };
-    }
-    buf.bytes[at as usize] = b;
-    Out {
-        at: at + 1,
-        open: o.open,
+    fn byte(&mut self, b: u8) {
+        if self.at == self.bytes.len() {
+            self.flush();
+        }
+        self.bytes[self.at] = b;
+        self.at += 1;
     }
 }
 
-pub fn text(buf: &mut Buffer, o: Out, bytes: &[u8]) -> Out {
-    let mut out = o;
-    let mut i = 0;
-    while i < bytes.len() {
-        out = byte(buf, out, bytes[i]);
-        i += 1;
+// No error where a write failed: the program ends quietly then (`is_open`).
+impl fmt::Write for Out {
+    fn write_str(&mut self, s: &str) -> fmt::Result {
+        for b in s.as_bytes() {
+            self.byte(*b);
+        }
+        Ok(())
     }
-    out
-}
-
-// 16 digits.
-pub fn hex(buf: &mut Buffer, o: Out, n: u64) -> Out {
-    let mut digits = [0u8; 16];
-    hex::encode_to_slice(&n.to_be_bytes(), &mut digits).unwrap();
-    text(buf, o, &digits)
-}
-
-pub fn decimal(buf: &mut Buffer, o: Out, n: u64) -> Out {
-    text(buf, o, itoa::Buffer::new().format(n).as_bytes())
-}
-
-pub fn signed(buf: &mut Buffer, o: Out, n: i32) -> Out {
-    if n < 0 {
-        let minus = byte(buf, o, b'-');
-        return decimal(buf, minus, magnitude(n));
-    }
-    decimal(buf, o, magnitude(n))
-}
-
-fn magnitude(n: i32) -> u64
-    ensures { result ≡ nat_abs n }
-{
-    if n < 0 {
-        let below = -1 - n;
-        return below as u64 + 1;
-    }
-    n as u64
 }

@@ -1,20 +1,20 @@
 // What a line is answered: the library's answer, or a list to be made where there is room for it.
-use hexagons::{Checked, Given, Number, Pair, Point, Started, Stepped, Truth, Walked};
+use hexagons::{Cursor, Given, IJ, IJK, Refusal, Stepped, Walked};
 
 #[derive(Clone, Copy)]
 pub enum Answer {
-    Malformed,
-    Checked(Checked),
-    Number(Number),
+    Checked(Result<(), Refusal>),
+    Number(Result<u64, Refusal>),
+    // the cell and the target
     List(u64, u32),
-    ListInRoom(u64, u32, u32),
-    ShortInRoom(u64, u32),
-    Cell(Number),
-    Point(Point),
-    Pair(Pair),
-    Truth(Truth),
-    Started(Started),
+    // the cell, the target, which a short listing has none of, and the room
+    ListInRoom(u64, Option<u32>, u32),
+    Cell(Result<u64, Refusal>),
+    Point(Result<IJK, Refusal>),
+    Pair(Result<IJ, Refusal>),
+    Truth(Result<bool, Refusal>),
+    Started(Result<Cursor, Refusal>),
     Given(Given),
-    Walked(Walked),
-    Stepped(Stepped),
+    Walked(Result<Walked, Refusal>),
+    Stepped(Result<Stepped, Refusal>),
 }

@@ -1,6 +1,6 @@
 pub mod Numerals
 pub mod Readings
-pub mod Signs
 pub mod Scanning
 pub mod Parting
+pub mod Names
 pub mod Examples

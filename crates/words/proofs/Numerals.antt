@@ -1,28 +1,19 @@
 -- One byte more: what it does to the digits of a word, their value and the scanner's state.
-use Prim.Native.Nat.{ℕ, ◌+◌, ◌-◌, ◌*◌, ◌/◌, ◌^◌, ◌≤◌, ◌<◌}
+use Prim.Native.Nat.{ℕ, ◌+◌, ◌*◌, ◌^◌, ◌≤◌, ◌<◌}
 use mathlib.Core.Path.{◌≡◌, refl, sym, ap, ◌∙◌}
 use mathlib.Core.Logic.{inl, inr}
 use mathlib.Core.Bool.{Bool, true, false, ◌&&◌}
 use mathlib.Core.List.{List, [], ◌∷◌, ◌++◌}
-use native.Mathlib.Nat.{mul-le-mul_left, mul-le-mul_right, pow-zero, pow-suc, le-div_iff_mul-le, div-lt_iff_lt-mul}
+use native.Mathlib.Nat.{mul-le-mul_left, mul-le-mul_right, pow-zero, pow-suc}
 use native.Mathlib.Omega.{arith}
 use lib.Dec.{ltb}
+use Rattle.std.proofs.Math.Bool.{and-true, and-false, and_assoc}
 use lib.ListN.{length, length-append}
 use borrow.Author.Tests.{lt-ltb, le-ltb, ltb-true}
 use Rattle.words.specs.Numeral.{digit_of, digits, onward, value}
-use Rattle.words.specs.Reading.{Beyond, Within}
-
-pub and_true : (t : Bool) → t && true ≡ t
-and_true true = refl
-and_true false = refl
-
-pub and_false : (t : Bool) → t && false ≡ false
-and_false true = refl
-and_false false = refl
-
-and_assoc : (s t u : Bool) → s && t && u ≡ s && (t && u)
-and_assoc true t u = refl
-and_assoc false t u = refl
+use Rattle.words.specs.Reading.{Beyond, Within, held}
+use Rattle.std.specs.Prelude.{Option, Some, None}
+use Rattle.std.specs.Option.{SomeIff}
 
 pub and_both : (s t : Bool) → s && t ≡ true → (s ≡ true) × (t ≡ true)
 and_both true t h = (refl, h)
@@ -31,7 +22,7 @@ and_both false false h = (h, h)
 
 pub digits_snoc : (base : ℕ) (bs : List ℕ) (b : ℕ) → digits base (bs ++ (b ∷ [])) ≡ digits base bs && ltb (digit_of b) base
 unfolding digits
-digits_snoc base [] b = and_true (ltb (digit_of b) base)
+digits_snoc base [] b = and-true (ltb (digit_of b) base)
 digits_snoc base (a ∷ bs) b =
     ap (λ (t : Bool). ltb (digit_of a) base && t) (digits_snoc base bs b) ∙ sym (and_assoc (ltb (digit_of a) base) (digits base bs) (ltb (digit_of b) base))
 
@@ -52,7 +43,7 @@ module _ (base : ℕ) (bs : List ℕ) (b : ℕ) where
   beyond_stays h (inr l) = inr (rw (onward_snoc base 0 bs b) (omega (arith, grows (value base bs) base (digit_of b) h)))
 
   pub beyond_digit : base ≤ digit_of b → Beyond base (bs ++ (b ∷ []))
-  beyond_digit h = inl (digits_snoc base bs b ∙ ap (λ (t : Bool). digits base bs && t) (le-ltb (digit_of b) base h) ∙ and_false (digits base bs))
+  beyond_digit h = inl (digits_snoc base bs b ∙ ap (λ (t : Bool). digits base bs && t) (le-ltb (digit_of b) base h) ∙ and-false (digits base bs))
 
   module _ (n : ℕ) (w : Within base n bs) where
     value_snoc : value base (bs ++ (b ∷ [])) ≡ n * base + digit_of b
@@ -65,14 +56,13 @@ module _ (base : ℕ) (bs : List ℕ) (b : ℕ) where
     within_more h =
         (digits_snoc base bs b ∙ ap (λ (t : Bool). t && ltb (digit_of b) base) w.0 ∙ lt-ltb (digit_of b) base h, value_snoc)
 
+-- the value with a digit more, where there is one: it is below 2 ^ 64, or lost
+pub held_more : (base n d b : ℕ) (r : Option ℕ) (bs : List ℕ) → SomeIff r (n * base + d < 2 ^ 64) (n * base + d) → (digit_of b < base) × (d ≡ digit_of b) → Within base n bs
+    → held base r (bs ++ (b ∷ []))
+held_more base n d b None bs s e w = beyond_large base bs b n w (omega (arith, s, e.1))
+held_more base n d b (Some m) bs s e w = rw (s.1, e.1) (within_more base bs b n w e.0)
+
 module _ (base : ℕ) (some : 1 < base) where
-  -- the test that a digit more fits 64 bits, both ways
-  pub room : (n d : ℕ) → d ≤ 16 → n ≤ (2 ^ 64 - 1 - d) / base → n * base + d < 2 ^ 64
-  room n d l h = let p : n * base ≤ 2 ^ 64 - 1 - d = (le-div_iff_mul-le {k = base} (omega arith)).0 h in omega arith
-
-  pub no_room : (n d : ℕ) → (2 ^ 64 - 1 - d) / base < n → 2 ^ 64 ≤ n * base + d
-  no_room n d h = let p : 2 ^ 64 - 1 - d < n * base = (div-lt_iff_lt-mul {k = base} (omega arith)).0 h in omega arith
-
   -- k digits are below the k-th power
   pub onward_below : (n : ℕ) (bs : List ℕ) → digits base bs ≡ true → onward base n bs < (n + 1) * base ^ length bs
   unfolding digits onward

@@ -1,10 +1,12 @@
 -- What the words of a line are: no word holds a blank, and each with a blank behind it, then the last, are the line again.
 use Prim.Native.Nat.{ℕ}
+use native.Mathlib.Omega.{arith}
+use lib.ListN.{length, length-append}
 use mathlib.Core.Path.{◌≡◌, refl, sym, ap, ◌∙◌}
-use mathlib.Core.Bool.{Bool, true, false, not}
+use mathlib.Core.Bool.{Bool, true, false, not, ◌&&◌}
 use mathlib.Core.List.{List, [], ◌∷◌, ◌++◌, append_assoc, append-nil}
 use lib.Dec.{eqb}
-use borrow.Author.Tests.{eqb-true}
+use borrow.Author.Tests.{eqb-true, ne_eqb}
 use Rattle.words.specs.Lines.{Parts, part, parts_from, parts, spaced, plain, all_plain}
 use Rattle.words.proofs.Numerals.{and_both}
 
@@ -40,6 +42,18 @@ onward_joined p (b ∷ bs) =
 pub joined : (bs : List ℕ) → spaced (parts bs).ended ++ (parts bs).next ≡ bs
 unfolding spaced
 joined bs = onward_joined (record { ended = []; next = [] }) bs
+
+-- a line is empty where no word of it is ended or begun
+none_joined : (ws : List (List ℕ)) (w bs : List ℕ) → spaced ws ++ w ≡ bs → eqb (length ws) 0 && eqb (length w) 0 ≡ eqb (length bs) 0
+unfolding spaced
+none_joined [] w bs e = rw e
+none_joined (v ∷ ws) w bs e =
+    let l : length bs ≡ 0 → ⊥ = λ z. omega (arith, ap length e, length-append (v ++ (32 ∷ spaced ws)) w, length-append v (32 ∷ spaced ws)) in
+    let k : length (v ∷ ws) ≡ 0 → ⊥ = λ z. omega arith in
+    rw (ne_eqb (length (v ∷ ws)) 0 k) (sym (ne_eqb (length bs) 0 l))
+
+pub none_so : (bs : List ℕ) → eqb (length (parts bs).ended) 0 && eqb (length (parts bs).next) 0 ≡ eqb (length bs) 0
+none_so bs = none_joined (parts bs).ended (parts bs).next bs (joined bs)
 
 one_plain : (p : Parts) (b : ℕ) (t : Bool) → eqb b 32 ≡ t → all_plain p.ended ≡ true → plain p.next ≡ true
     → (all_plain (part p b).ended ≡ true) × (plain (part p b).next ≡ true)

@@ -1,9 +1,6 @@
 -- What a word of a request means as a number, from design/requests.md: "1 to 16 lower-case hexadecimal digits";
 -- else "one or more digits, leading zeros allowed, whose value fits its place", with `-` before a signed one. A word is the list of its bytes.
-use Rattle.std.specs.Prelude.{ℕ, ◌+◌, ◌-◌, ◌*◌, ◌^◌, Bool, true, false, cond, ◌&&◌, List, [], ◌∷◌, ltb, leb, eqb, length, pos, neg_ℤ}
-use Rattle.words.specs.declared.word.Number.{Number}
-use Rattle.words.specs.declared.word.Small.{Small}
-use Rattle.words.specs.declared.word.Signed.{Signed}
+use Rattle.std.specs.Prelude.{ℕ, ◌+◌, ◌-◌, ◌*◌, ◌^◌, Bool, true, false, cond, ◌&&◌, List, [], ◌∷◌, ltb, leb, eqb, length, ℤ, pos, neg_ℤ, Option, Some, None}
 
 -- `0` to `9`, `a` to `f`; 16 for any other byte
 abbrev pub digit_of : ℕ → ℕ
@@ -26,14 +23,14 @@ value base bs = onward base 0 bs
 abbrev pub numeral : ℕ → ℕ → List ℕ → Bool
 numeral base bound bs = ltb 0 (length bs) && digits base bs && ltb (value base bs) bound
 
-abbrev pub hexadecimal : List ℕ → Number
-hexadecimal bs = cond (ltb 0 (length bs) && digits 16 bs && leb (length bs) 16) (Number.Value (value 16 bs)) Number.Nothing
+abbrev pub hexadecimal : List ℕ → Option ℕ
+hexadecimal bs = cond (ltb 0 (length bs) && digits 16 bs && leb (length bs) 16) (Some (value 16 bs)) None
 
-abbrev pub natural64 : List ℕ → Number
-natural64 bs = cond (numeral 10 (2 ^ 64) bs) (Number.Value (value 10 bs)) Number.Nothing
+abbrev pub natural64 : List ℕ → Option ℕ
+natural64 bs = cond (numeral 10 (2 ^ 64) bs) (Some (value 10 bs)) None
 
-abbrev pub natural32 : List ℕ → Small
-natural32 bs = cond (numeral 10 (2 ^ 32) bs) (Small.Value (value 10 bs)) Small.Nothing
+abbrev pub natural32 : List ℕ → Option ℕ
+natural32 bs = cond (numeral 10 (2 ^ 32) bs) (Some (value 10 bs)) None
 
 abbrev pub minus : List ℕ → Bool
 minus [] = false
@@ -44,8 +41,8 @@ abbrev pub bare : List ℕ → List ℕ
 bare [] = []
 bare (b ∷ bs) = cond (eqb b 45) bs (b ∷ bs)
 
-abbrev pub integer32 : List ℕ → Signed
+abbrev pub integer32 : List ℕ → Option ℤ
 integer32 bs =
     cond (minus bs)
-    (cond (numeral 10 (2 ^ 31 + 1) (bare bs)) (Signed.Value (neg_ℤ (pos (value 10 (bare bs))))) Signed.Nothing)
-    (cond (numeral 10 (2 ^ 31) (bare bs)) (Signed.Value (pos (value 10 (bare bs)))) Signed.Nothing)
+    (cond (numeral 10 (2 ^ 31 + 1) (bare bs)) (Some (neg_ℤ (pos (value 10 (bare bs))))) None)
+    (cond (numeral 10 (2 ^ 31) (bare bs)) (Some (pos (value 10 (bare bs)))) None)

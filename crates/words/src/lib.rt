@@ -5,4 +5,4 @@ mod line;
 mod word;
 
 pub use line::Line;
-pub use word::{Number, Signed, Small};
+pub use word::Word;

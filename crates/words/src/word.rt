@@ -1,60 +1,36 @@
-// A word: its readings as a number, kept up at each byte.
-ghost use Rattle.std.specs.Prelude.{◌≡◌, true, List, [], ◌∷◌, ◌++◌, ℕ, ◌+◌, ◌<◌, ◌≤◌, min};
+// A word: its first bytes, and its readings as a number, kept up at each byte.
+ghost use Rattle.std.specs.Prelude.{◌≡◌, List, [], ◌∷◌, ◌++◌, ℕ, ◌+◌, ◌<◌, ◌≤◌, length, min, take};
+ghost use Rattle.std.specs.Option.{SomeIff};
 ghost use Rattle.words.specs.Numeral.{digit_of, hexadecimal, natural64, natural32, integer32};
-ghost use Rattle.words.specs.Reading.{Spells, Reads, natural, negated};
+ghost use Rattle.words.specs.Reading.{held, Spells, Begun, Reads, natural};
 
-#[derive(Clone, Copy)]
-pub enum Number {
-    Value(u64),
-    Nothing,
-}
-
-#[derive(Clone, Copy)]
-pub enum Small {
-    Value(u32),
-    Nothing,
-}
-
-#[derive(Clone, Copy)]
-pub enum Signed {
-    Value(i32),
-    Nothing,
-}
-
-// Digits of one base so far: their value, how many (17 for more), and whether the value is lost,
-// to a byte that is no digit or to 64 bits.
+// Digits of one base so far: their value, `None` where it is lost to a byte that is no digit or to 64 bits,
+// and how many, 17 for more.
 #[derive(Clone, Copy)]
 pub struct Digits {
-    value: u64,
-    count: u64,
-    lost: bool,
+    value: Option<u64>,
+    count: usize,
 }
 
-// A `-` in front belongs to `decimal` only.
+// In fixed memory: the first `hex.count` bytes of `text` are the word's. A `-` in front belongs to `decimal` only. `Reads`
+// relates a word to its bytes and stands in the contracts: it keeps 16, so that no view or invariant could name them all.
 #[derive(Clone, Copy)]
 pub struct Word {
+    text: [u8; 16],
     minus: bool,
     hex: Digits,
     decimal: Digits,
 }
 
-// 16 for a byte that is no lower-case hexadecimal digit.
-fn digit(b: u8) -> u64
-    ensures { result ≡ digit_of b }
+// Capital letters are no digits.
+fn digit(b: u8) -> Option<u64>
+    ensures { SomeIff result (digit_of b < 16) (digit_of b) }
 {
-    if b < b'0' {
-        return 16;
+    match b {
+        b'0'..=b'9' => Some(u64::from(b - b'0')),
+        b'a'..=b'f' => Some(u64::from(b - b'a') + 10),
+        _ => None,
     }
-    if b <= b'9' {
-        return (b - b'0') as u64;
-    }
-    if b < b'a' {
-        return 16;
-    }
-    if b <= b'f' {
-        return (b - b'a') as u64 + 10;
-    }
-    16
 }
 
 impl Digits {
@@ -63,9 +39,8 @@ impl Digits {
         ensures { (base : ℕ) → Spells base result [] }
     {
         Digits {
-            value: 0,
+            value: Some(0),
             count: 0,
-            lost: false,
         }
     }
 
@@ -73,153 +48,114 @@ impl Digits {
         requires { (1 < base) × (base ≤ 16) }
         ensures { (bs : List ℕ) → Spells base self bs → Spells base result (bs ++ (b ∷ [])) }
     {
-        let value = self.value;
-        let count = more(self.count);
-        let d = digit(b);
-        if self.lost {
-            return lost(count);
-        }
-        if d >= base {
-            return lost(count);
-        }
-        if value > (u64::MAX - d) / base {
-            return lost(count);
-        }
         Digits {
-            value: value * base + d,
-            count,
-            lost: false,
+            value: self.onward(base, b),
+            count: self.count.saturating_add(1).min(17),
         }
     }
 
-    fn number(self) -> Number
+    // The value with one byte more.
+    #[tactic(auto, using(crate::proofs::Numerals::beyond_stays, crate::proofs::Numerals::beyond_digit, crate::proofs::Numerals::beyond_large, crate::proofs::Numerals::held_more))]
+    fn onward(self, base: u64, b: u8) -> Option<u64>
+        requires { (1 < base) × (base ≤ 16) }
+        ensures { (bs : List ℕ) → held base self.value bs → held base result (bs ++ (b ∷ [])) }
+    {
+        let value = self.value?;
+        let d = digit(b).filter(|d| *d < base)?;
+        value.checked_mul(base)?.checked_add(d)
+    }
+
+    fn number(self) -> Option<u64>
         ensures { (base : ℕ) → (bs : List ℕ) → Spells base self bs → result ≡ natural base bs }
     {
-        let value = self.value;
-        if self.lost {
-            return Number::Nothing;
-        }
-        if self.count == 0 {
-            return Number::Nothing;
-        }
-        Number::Value(value)
-    }
-}
-
-fn more(count: u64) -> u64
-    ensures { result ≡ min (count + 1) 17 }
-{
-    if count < 16 { count + 1 } else { 17 }
-}
-
-fn lost(count: u64) -> Digits
-    ensures { (result.lost ≡ true) × (result.count ≡ count) }
-{
-    Digits {
-        value: 0,
-        count,
-        lost: true,
+        if self.count == 0 { None } else { self.value }
     }
 }
 
 impl Word {
-    pub fn new() -> Self
+    pub(crate) fn new() -> Self
         ensures { Reads result [] }
     {
         let none = Digits::new();
         Word {
+            text: [0; 16],
             minus: false,
             hex: none,
             decimal: none,
         }
     }
 
-    pub fn fed(self, b: u8) -> Self
+    pub(crate) fn fed(self, b: u8) -> Self
         ensures { (bs : List ℕ) → Reads self bs → Reads result (bs ++ (b ∷ [])) }
     {
-        let minus = self.minus;
-        let hex = self.hex;
-        let decimal = self.decimal;
-        let count = hex.count;
-        let fed = hex.fed(16, b);
-        if count == 0 {
-            if b == b'-' {
-                return Word {
-                    minus: true,
-                    hex: fed,
-                    decimal,
-                };
-            }
+        let count = self.hex.count;
+        let text = noted(self.text, count, b);
+        let hex = self.hex.fed(16, b);
+        if count == 0 && b == b'-' {
+            return Word {
+                text,
+                minus: true,
+                hex,
+                ..self
+            };
         }
-        let more = decimal.fed(10, b);
+        let decimal = self.decimal.fed(10, b);
         Word {
-            minus,
-            hex: fed,
-            decimal: more,
+            text,
+            hex,
+            decimal,
+            ..self
         }
+    }
+
+    // The first 16 bytes.
+    pub fn text(&self) -> &[u8]
+        ensures { (bs : List ℕ) → Reads self.now bs → result.now ≡ take 16 bs }
+    {
+        &self.text[..self.hex.count.min(16)]
     }
 
     #[tactic(auto, using(crate::proofs::Readings::hexadecimal_short))]
-    pub fn hexadecimal(self) -> Number
-        ensures { (bs : List ℕ) → Reads self bs → result ≡ hexadecimal bs }
+    pub fn hexadecimal(&self) -> Option<u64>
+        ensures { (bs : List ℕ) → Reads self.now bs → result ≡ hexadecimal bs }
     {
-        let hex = self.hex;
-        if hex.count > 16 {
-            return Number::Nothing;
+        if self.hex.count > 16 {
+            return None;
         }
-        hex.number()
+        self.hex.number()
     }
 
     #[tactic(auto, using(crate::proofs::Readings::natural_minus))]
-    pub fn natural64(self) -> Number
-        ensures { (bs : List ℕ) → Reads self bs → result ≡ natural64 bs }
+    pub fn natural64(&self) -> Option<u64>
+        ensures { (bs : List ℕ) → Reads self.now bs → result ≡ natural64 bs }
     {
-        let decimal = self.decimal;
         if self.minus {
-            return Number::Nothing;
+            return None;
         }
-        decimal.number()
+        self.decimal.number()
     }
 
-    pub fn natural32(self) -> Small
-        ensures { (bs : List ℕ) → Reads self bs → result ≡ natural32 bs }
+    pub fn natural32(&self) -> Option<u32>
+        ensures { (bs : List ℕ) → Reads self.now bs → result ≡ natural32 bs }
     {
-        let Number::Value(n) = self.natural64() else {
-            return Small::Nothing;
-        };
-        if n > 0xffff_ffff {
-            return Small::Nothing;
-        }
-        Small::Value(n as u32)
+        u32::try_from(self.natural64()?).ok()
     }
 
-    pub fn integer32(self) -> Signed
-        ensures { (bs : List ℕ) → Reads self bs → result ≡ integer32 bs }
+    pub fn integer32(&self) -> Option<i32>
+        ensures { (bs : List ℕ) → Reads self.now bs → result ≡ integer32 bs }
     {
-        let decimal = self.decimal;
-        let minus = self.minus;
-        let Number::Value(n) = decimal.number() else {
-            return Signed::Nothing;
-        };
-        if minus {
-            return negative(n);
-        }
-        if n > 0x7fff_ffff {
-            return Signed::Nothing;
-        }
-        Signed::Value(n as i32)
+        let n = i64::try_from(self.decimal.number()?).ok()?;
+        i32::try_from(if self.minus { -n } else { n }).ok()
     }
 }
 
-fn negative(n: u64) -> Signed
-    ensures { result ≡ negated n }
+// The text with one byte more, where there is room for it.
+#[tactic(auto, using(crate::proofs::Readings::begun_full, crate::proofs::Readings::begun_more))]
+fn noted(mut text: [u8; 16], count: usize, b: u8) -> [u8; 16]
+    ensures { (bs : List ℕ) → count ≡ min (length bs) 17 → Begun text count bs → Begun result (min (count + 1) 17) (bs ++ (b ∷ [])) }
 {
-    if n == 0 {
-        return Signed::Value(0);
+    if count < 16 {
+        text[count] = b;
     }
-    if n > 0x8000_0000 {
-        return Signed::Nothing;
-    }
-    let below = (n - 1) as i32;
-    Signed::Value(-1 - below)
+    text
 }

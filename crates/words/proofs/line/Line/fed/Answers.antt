@@ -6,6 +6,5 @@ use Rattle.words.proofs.line.Line.fed.Goals as goal
 pub returns : goal.returns
 returns c =
     let a = c.args in
-    let n = c.noted-line in
     let no_blank : a.b ≢ 32 = λ e. omega arith in
-    λ bs s. scans_more a.self n.result a.b n.ensures bs s c.fed-line.result c.fed-line.ensures no_blank
+    λ bs s. scans_more a.self a.b bs s c.fed-self.result c.fed-self.ensures no_blank
