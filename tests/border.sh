@@ -1,6 +1,6 @@
 #!/bin/sh
 # Fails where the library's face names what only our own crates may: `index::inside`, the module of field readers, the kinds with their makers
-# (`Cell`, `Resolution`, `BaseCell`, `Digit`, `Direction`), `entry::judge`, and `below` and `cut`, which take a cell. The bodies of entries call them; public
+# (`Cell`, `Resolution`, `BaseCell`, `Digit`, `Direction`), `entry::judge`, and `below`, which takes checks. The bodies of entries call them; public
 # items, the C exports, the line program, the header and the bindings must not name them. The exports and the line program name no crate of entries but hexagons.
 set -u
 cd "$(dirname "$0")/.." || exit 1
@@ -17,7 +17,7 @@ found=$(
     for f in crates/hexagons/src/*.rt crates/entry/src/*.rt crates/*_entries/src/*.rt; do
         sed 's#//.*##' "$f" | tr '\n' ' ' | grep -oE 'pub use [^;]*;' | grep 'inside' | sed "s#^#$f: #"
     done
-    sed 's#//.*##' crates/hexagons/src/*.rt | tr '\n' ' ' | grep -oE 'pub use [^;]*;' | grep -wE "$kinds|judge|below|cut"
+    sed 's#//.*##' crates/hexagons/src/*.rt | tr '\n' ' ' | grep -oE 'pub use [^;]*;' | grep -wE "$kinds|judge|below"
     grep -rnE "(index|plane)::[a-z_:]*\{?.*\b($kinds)\b" $above
     grep -rnE 'use (entry|[a-z]*_entries)::' $above
 )
