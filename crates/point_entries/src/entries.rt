@@ -17,6 +17,8 @@ pub fn unit(direction: u32) -> Result<IJK, Refusal>
     Ok(d.coordinate())
 }
 
+// Inlined, since the two exports that share it would have its answer in memory.
+#[inline(always)]
 pub fn direction_turn(direction: u32, count: u32, ccw: bool) -> Result<u64, Refusal>
     ensures { told result ≡ direction_turn_of ccw direction count }
 {
