@@ -1,14 +1,9 @@
 -- A loop over a block that writes what an entry gives for each element into two lent blocks. Assumes nothing.
-use Rattle.std.proofs.Common.{◌≡◌, ℕ, zero, suc, ◌+◌, ◌≤◌, ◌<◌, true, false, ◌||◌, ◌⊎◌, inl, inr, ltb, lt-ltb, List, [], ◌∷◌, ◌++◌, map, length, take, drop, get_or, set, refl, sym, ap, ◌∙◌, subst, add-one, arith, le-ltb, Option, Result, Ok, Err}
+use Rattle.std.proofs.Common.{◌≡◌, ℕ, zero, suc, ◌+◌, ◌≤◌, ◌<◌, true, false, ◌||◌, ◌⊎◌, inl, inr, ltb, lt-ltb, List, [], ◌∷◌, ◌++◌, map, length, take, drop, get_or, set, refl, sym, ap, ◌∙◌, subst, add-one, arith, le-ltb}
 use native.Mathlib.Nat.{le_of_suc-le-suc, not-suc-le-zero}
 use lib.Seq.{take-length}
-use Rattle.std.specs.Option.{MatchOption}
-use Rattle.std.specs.Result.{result_unwrap_or, result_err}
-use Rattle.std.proofs.lemmas.Option.{MatchOption-at_none, MatchOption-at_some}
 use Rattle.entry.specs.Answers.{value_of}
 use Rattle.index.specs.Refusals.{Outcome, answered, refused, number_of}
-use Rattle.index.specs.Told.{number, told}
-use Rattle.index.specs.declared.refusal.Refusal.{Refusal}
 use Rattle.index.proofs.Rules.{past, hit, none_answered}
 use Rattle.block_entries.specs.Blocks.{block_of, filled, values_after, refusals_after}
 
@@ -39,15 +34,6 @@ one n v r (inr h) = rw (le-ltb v n h.0, lt-ltb r n h.1)
 pub record Filled (entry : ℕ → Outcome ℕ) (block v₀ r₀ v r : List ℕ) (i : ℕ) : Type 0 where
   pub values : v ≡ part (λ n. value_of (entry n)) block v₀ i
   pub refusals : r ≡ part (λ n. number_of (entry n)) block r₀ i
-
--- what is written of an answer
-pub value : (r : Result ℕ Refusal) → result_unwrap_or r 0 ≡ value_of (told r)
-value (Ok n) = refl
-value (Err x) = refl
-
-pub refusal : (r : Result ℕ Refusal) (o : Option Refusal) (k : ℕ) → o ≡ result_err r → MatchOption o (k ≡ 0) (λ x. k ≡ number x) → k ≡ number_of (told r)
-refusal (Ok n) o k e m = MatchOption-at_none (k ≡ 0) (λ x. k ≡ number x) e m
-refusal (Err y) o k e m = MatchOption-at_some (k ≡ 0) (λ x. k ≡ number x) y e m
 
 module _ (entry : ℕ → Outcome ℕ) (block v₀ r₀ : List ℕ) where
   -- what the entry over the block promises of its answer and of the lent blocks afterwards

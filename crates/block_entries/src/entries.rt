@@ -1,6 +1,7 @@
 // Entries over a block of numbers: what the single entry gives for each element.
 ghost use Rattle.std.specs.Prelude.{◌≡◌, ℕ, ◌^◌, ◌<◌, Result};
-ghost use Rattle.index.specs.Refusals.{Outcome};
+ghost use Rattle.index.specs.Refusals.{Outcome, number_of};
+ghost use Rattle.entry.specs.Answers.{value_of};
 ghost use Rattle.index.specs.Check.{check_of};
 ghost use Rattle.index.specs.Told.{told};
 ghost use Rattle.index.specs.declared.refusal.Refusal.{Refusal};
@@ -9,6 +10,17 @@ ghost use Rattle.cell_entries.specs.Cells.{position_of, ancestor_of};
 
 use cell_entries::{ancestor, below};
 use index::Refusal;
+
+// What is written of an answer: its value and 0, or 0 and the refusal's number.
+fn written(a: Result<u64, Refusal>) -> (u64, u16)
+    ensures value { result.0 ≡ value_of (told a) }
+    ensures refusal { result.1 ≡ number_of (told a) }
+{
+    match a {
+        Ok(value) => (value, 0),
+        Err(x) => (0, x.number()),
+    }
+}
 
 // Writes what f gives for each element.
 fn each<F: Fn(u64) -> Result<u64, Refusal>>(
@@ -25,9 +37,9 @@ fn each<F: Fn(u64) -> Result<u64, Refusal>>(
         return Err(Refusal::NoRoom);
     }
     for (i, c) in cells.iter().enumerate() {
-        let answer = f(*c);
-        values[i] = answer.unwrap_or(0);
-        refusals[i] = answer.err().map_or(0, Refusal::number);
+        let (value, refusal) = written(f(*c));
+        values[i] = value;
+        refusals[i] = refusal;
     }
     Ok(n as u64)
 }

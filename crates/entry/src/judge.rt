@@ -1,4 +1,4 @@
-// What entries judge of the numbers handed in, but for a cell.
+// What entries judge of the directions, counts and points handed in.
 #![tactic(auto, unfolding(index::specs::Refusals::judged))]
 
 ghost use Rattle.std.specs.Prelude.{◌≡◌, [], ◌∷◌};

@@ -1,4 +1,4 @@
-// What the entries share: what they judge of the numbers handed in, but for a cell.
+// What the entries share: what they judge of the directions, counts and points handed in.
 #![tactic(auto)]
 
 // Public only because it crosses our crates' border.

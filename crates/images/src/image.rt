@@ -1,5 +1,5 @@
 // The images of a point of the plane (coord/ijk.rs): down and up by an aperture, a turn, a neighbour.
-ghost use Rattle.std.specs.Prelude.{◌≡◌, ◌<◌, ◌≤◌};
+ghost use Rattle.std.specs.Prelude.{◌≡◌, ◌≤◌};
 ghost use Rattle.plane.specs.Directions.{unit};
 ghost use Rattle.plane.specs.Points as points;
 ghost use Rattle.plane.specs.Ranges.{Within, Broad};

@@ -68,7 +68,7 @@ pub fn first_axe(n: u64) -> u64
     if k == 0 {
         return 0;
     }
-    let z = u64::leading_zeros(n % DIGITS_END) as u64;
+    let z = (n % DIGITS_END).leading_zeros() as u64;
     let at = (z - PREFIX_LENGTH) / 3 + 1;
     if k < at {
         get_direction(n, own)

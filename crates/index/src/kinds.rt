@@ -1,4 +1,5 @@
-// The kinds of number that an index holds beside the cell itself.
+// The kinds of number that an index holds beside the cell itself: a tuple struct for each, as document 01 has them, and no one struct with its bound
+// as a parameter, which would make one kind of them.
 ghost use Rattle.std.specs.Prelude.{◌≡◌, ◌-◌, ◌^◌, ◌≤◌};
 
 use crate::Refusal;

@@ -4,7 +4,7 @@ ghost use Rattle.index.specs.Layout.{is_pentagonal};
 ghost use Rattle.index.specs.Refusals.{answered, refused};
 ghost use Rattle.index.specs.Check.{check_of};
 ghost use Rattle.index.specs.Told.{number, told};
-ghost use Rattle.index.specs.Words.{Each, mark, ones, low};
+ghost use Rattle.index.specs.Words.{Each, Numbered, mark, ones, low};
 
 use crate::base_cell::pentagon_bit;
 use crate::bits::{ONES, get_base_cell, get_reserved, get_resolution, get_top, sel};
@@ -40,10 +40,11 @@ fn low_bits(n: u64, base: u64) -> u64
     (n & ONES) * bit
 }
 
-// The refusal's number or 0, from the last test to the first, so that none is a branch. A test need only be right where those before it fail: the mode is
+// The refusal's number or 0, from the last test to the first, so that none is a branch; as a chain of Results the check of half
+// damaged numbers takes 8.05 ns where it takes 5.8. A test need only be right where those before it fail: the mode is
 // read with the top bit; a used 7 makes the marks greater than `u`; else an unused digit that is not 7 makes them less; else no unused digit is a first 1.
 fn refusal_number(n: u64) -> u64
-    ensures { (result ≤ 7) × (check_of n ≡ (if nat_eq result 0 then answered n else refused result)) }
+    ensures { Numbered n result }
 {
     let base = get_base_cell(n);
     let u = unused(get_resolution(n));
@@ -72,7 +73,7 @@ fn is_cell(n: u64) -> bool
 
 // The same number, for numbers that mostly are cells.
 fn likely_number(n: u64) -> u64
-    ensures { (result ≤ 7) × (check_of n ≡ (if nat_eq result 0 then answered n else refused result)) }
+    ensures { Numbered n result }
 {
     if is_cell(n) {
         return 0;
@@ -81,7 +82,7 @@ fn likely_number(n: u64) -> u64
 }
 
 // The refusal of a number 1 to 7.
-fn refusal(k: u64) -> Refusal
+fn refusal(k: u8) -> Refusal
     requires { (1 ≤ k) × (k ≤ 7) }
     ensures { number result ≡ k }
 {
@@ -93,18 +94,19 @@ fn refusal(k: u64) -> Refusal
         5 => Refusal::Digit,
         6 => Refusal::Unused,
         7 => Refusal::Deleted,
+        // No default arm: the compiler would make a table of jumps of it, in the loop of a block.
         _ => unreachable!(),
     }
 }
 
 fn checked(n: u64, k: u64) -> Result<Cell, Refusal>
-    requires { (k ≤ 7) × (check_of n ≡ (if nat_eq k 0 then answered n else refused k)) }
+    requires { Numbered n k }
     ensures { told result ≡ check_of n }
 {
     if k == 0 {
         return Ok(Cell::new_unchecked(n));
     }
-    Err(refusal(k))
+    Err(refusal(k as u8))
 }
 
 // The check, for numbers that mostly are cells.

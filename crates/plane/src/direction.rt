@@ -1,4 +1,5 @@
-ghost use Rattle.std.specs.Prelude.{◌≡◌, true, false, cond, ◌≤◌, ◌<◌};
+// Directions (direction.rs).
+ghost use Rattle.std.specs.Prelude.{◌≡◌, true, false, cond, ◌<◌};
 ghost use Rattle.plane.specs.Directions.{unit, turn, turns};
 
 use crate::ijk::IJK;

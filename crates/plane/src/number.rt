@@ -1,6 +1,5 @@
+// Coordinates as numbers.
 ghost use Rattle.std.specs.Prelude.{◌≡◌, ◌+◌, ◌*◌, ◌≤◌, pos, nat_abs, ◌+ℤ◌, ◌-ℤ◌, ◌*ℤ◌};
-ghost use Rattle.std.specs.Int.{w32};
-ghost use Rattle.std.proofs.Common.{SFits};
 ghost use Rattle.plane.specs.Points as points;
 ghost use Rattle.plane.specs.Ranges.{in_range};
 ghost use Rattle.plane.specs.Inside.{Is};

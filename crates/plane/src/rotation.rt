@@ -1,4 +1,4 @@
-// A count of turns by 60 degrees, 0 to 5, and their sense.
+// A count of turns by 60 degrees, 0 to 5, and their sense: a flag, as document 01 has it, here and wherever a function turns one way or the other.
 ghost use Rattle.std.specs.Prelude.{◌≡◌, ◌≤◌};
 
 use std::marker::Model;

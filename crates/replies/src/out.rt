@@ -4,14 +4,13 @@ ghost use Rattle.std.specs.Prelude.{◌≡◌, ◌≤◌};
 use std::fmt;
 use std::io::Stdout;
 
-// The first `at` bytes wait. After a write that fails nothing is written any more.
+// The first `at` bytes wait for `to`. After a write that fails there is none any more.
 // Not std's `BufWriter`: it takes its buffer from an allocator, and this program has none.
 #[derive(Drop)]
 pub struct Out {
     bytes: [u8; 65536],
     at: usize,
-    open: bool,
-    to: Stdout,
+    to: Option<Stdout>,
     ghost room: { at ≤ 65536 },
 }
 
@@ -20,19 +19,22 @@ impl Out {
         Out {
             bytes: [0; 65536],
             at: 0,
-            open: true,
-            to,
+            to: Some(to),
         }
     }
 
     pub fn is_open(&self) -> bool {
-        self.open
+        self.to.is_some()
     }
 
     pub fn flush(&mut self)
         ensures { self.new.at ≡ 0 }
     {
-        self.open = self.open && self.to.write_all(&self.bytes[..self.at]).is_ok();
+        if let Some(to) = &self.to {
+            if to.write_all(&self.bytes[..self.at]).is_err() {
+                self.to = None;
+            }
+        }
         self.at = 0;
     }
 

@@ -1,5 +1,5 @@
-// The C exports (include/rivetgnome.h): each passes on what the entry of the same name in `hexagons` answers, in a struct that `outward` makes of it.
-// They decide nothing: `outward` says whether a cursor's words fit their fields.
+// The C exports (include/rivetgnome.h): each passes on what its entry in `hexagons` answers, in a struct that `outward` makes of it; of the two senses of
+// a turn the one that it is named for. They decide nothing but that five words which are no cursor are refusal 11.
 #![tactic(auto)]
 
 mod blocks;

@@ -1,4 +1,4 @@
-// What the walk and the step are answered, in plain numbers.
+// What the walk and the step are answered. In plain numbers, not the kinds of `walks` and `grid`: those stay inside the library.
 
 // A raw number and the carry.
 #[derive(Clone, Copy, Debug, PartialEq, Eq, Hash)]

@@ -1,5 +1,5 @@
 -- By the laws of `Fills`.
-use Rattle.std.proofs.Common.{◌∙◌, arith}
+use Rattle.std.proofs.Common.{arith}
 use Rattle.block_entries.proofs.Fills as fills
 use Rattle.block_entries.proofs.entries.each.Goals as goal
 
@@ -12,7 +12,7 @@ loop-i-init g c entry h = fills.begin entry _ _ _
 pub loop-i-preserved : goal.loop-i-preserved
 loop-i-preserved g c entry h =
     fills.again entry _ _ _ c.if-values-n.false c.if-refusals-n.false _ _ _ (c.loop-i.invariant entry h) _ _ _ c.loop-i-test.true
-    (h _ _ (omega arith) c.f-answer.ensures) (c.unwrap_or.ensures ∙ fills.value c.f-answer.result) (fills.refusal c.f-answer.result _ _ c.err.ensures.value c.map_or.ensures)
+    (h _ _ (omega arith) c.f.ensures) c.written-value.ensures.value c.written-value.ensures.refusal
 
 pub returns : goal.returns
 returns g c entry h = fills.end entry _ _ _ c.if-values-n.false c.if-refusals-n.false _ _ _ (c.loop-i.invariant entry h) (omega arith)
