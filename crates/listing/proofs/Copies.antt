@@ -1,7 +1,7 @@
 -- Runs and copies that go on with a listing's first elements. Assumes nothing.
 use Rattle.std.proofs.Common.{◌≡◌, ℕ, zero, suc, ◌+◌, ◌-◌, ◌*◌, ◌^◌, ◌<◌, ◌≤◌, List, ◌++◌, length, get_or, take, drop, set, sym, refl, ap, ◌∙◌, subst, mod-eq_of_lt, arith, length-set, drop-drop, drop_at}
 use Rattle.std.proofs.lemmas.List.{set-append_left, set-append_right, length-take-le}
-use borrow.Rule.Slice.PartMut.{put_mid}
+use borrow.Rule.Slice.PartMut.{mid_of, mid_len, put_mid, put_same}
 use lib.ListN.{get_or-append}
 use lib.Seq.{drop-append-add}
 use Rattle.descent.specs.Positions.{tab}
@@ -15,6 +15,33 @@ set_part l p i w j v h g =
     let z : i + j - i ≡ j = omega arith in
     let r = drop w (drop i l) in
     sym (set-append_right (take i l) (p ++ r) i (i + j) v (length-take-le i l h) (omega arith) ∙ ap (λ (x : List ℕ). take i l ++ x) (rw z (set-append_left p r j v g)))
+
+length_ramp : (l : List ℕ) (i q s k : ℕ) → length (ramp l i q s k) ≡ length l
+unfolding ramp
+length_ramp l i q s zero = refl
+length_ramp l i q s (suc k) = simp length-set (length_ramp l i q s k)
+
+-- a ramp over a part, from i up to e
+module _ (l p : List ℕ) (i e q s : ℕ) (o : i ≤ e) (h : e ≤ length l) where
+  ramp_up : (k : ℕ) → k ≤ e - i → put_mid i (e - i) l (ramp (mid_of i (e - i) l) 0 q s k) ≡ ramp l i q s k
+  unfolding ramp
+  ramp_up zero f = put_same i (e - i) l
+  ramp_up (suc k) f =
+      let z : 0 + k ≡ k = omega arith in
+      rw z (set_part l (ramp (mid_of i (e - i) l) 0 q s k) i (e - i) k (q + k * s) (omega arith) (omega (arith, length_ramp (mid_of i (e - i) l) 0 q s k, mid_len i e l h)))
+      ∙ ap (λ (x : List ℕ). set x (i + k) (q + k * s)) (ramp_up k (omega arith))
+
+  pub ramp_part : (k : ℕ) → e ≡ i + k → p ≡ ramp (mid_of i (e - i) l) 0 q s (length (mid_of i (e - i) l)) → put_mid i (e - i) l p ≡ ramp l i q s k
+  ramp_part k w g =
+      let z : e - i ≡ k = omega arith in
+      ap (put_mid i (e - i) l) (g ∙ ap (ramp (mid_of i (e - i) l) 0 q s) (mid_len i e l h)) ∙ ramp_up (e - i) (omega arith) ∙ ap (ramp l i q s) z
+
+-- the run after j of them
+pub stairs_part : (b l p : List ℕ) (i j q s v a e : ℕ) → l ≡ stairs b i q s j → v ≡ q + j * (8 * s) → a ≡ i + 7 * j → e ≡ a + 7 → e ≤ length l →
+    p ≡ ramp (mid_of a (e - a) l) 0 v s (length (mid_of a (e - a) l)) → put_mid a (e - a) l p ≡ stairs b i q s (suc j)
+unfolding stairs
+stairs_part b l p i j q s v a e el ev ea ee h g =
+    ramp_part l p a e v s (omega arith) h 7 ee g ∙ (λ x. ramp (el x) (ea x) (ev x) s 7)
 
 length_copies : (l : List ℕ) (a k d s : ℕ) → length (copies l a k d s) ≡ length l
 unfolding copies

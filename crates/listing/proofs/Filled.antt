@@ -1,6 +1,7 @@
 -- The first numbers below a cell by runs of siblings; and the numbers below a first child are the children. Assumes nothing.
-use Rattle.std.proofs.Common.{◌≡◌, ℕ, zero, suc, ◌+◌, ◌-◌, ◌*◌, ◌^◌, ◌<◌, ◌≤◌, Bool, true, false, List, ◌++◌, length, drop, set, sym, refl, ap, ap₂, ◌∙◌, subst, lt-suc_self, arith}
-use native.Mathlib.Nat.{le_step, pow-le-pow_right}
+use Rattle.std.proofs.Common.{◌≡◌, ℕ, zero, suc, ◌+◌, ◌-◌, ◌*◌, ◌^◌, ◌<◌, ◌≤◌, Bool, true, false, List, ◌++◌, length, drop, set, sym, refl, ap, ap₂, ◌∙◌, subst, lt-suc_self, length-set, arith}
+use native.Mathlib.Nat.{le_step, pow-le-pow_right, mul-le-mul_right}
+use borrow.Rule.Slice.PartMut.{mid_of, mid_len, put_mid}
 use Rattle.index.specs.Layout.{res_of, Valid}
 use Rattle.index.specs.View.{octal}
 use Rattle.descent.specs.Descendants.{pentagon, count, count_of}
@@ -11,7 +12,7 @@ use Rattle.listing.specs.declared.blocks.Numbers.{Numbers}
 use Rattle.listing.proofs.Levels.{count_mono}
 use Rattle.descent.proofs.Start as start
 use Rattle.descent.proofs.Tab.{tab_none}
-use Rattle.listing.proofs.Copies.{put, ramped, staired, again, then}
+use Rattle.listing.proofs.Copies.{put, ramp_part, ramped, staired, again, then}
 use Rattle.listing.proofs.Strides.{origin, nth, octal_block, hexagon_block, pentagon_block, pentagon_over, number_first}
 
 -- the sibling j of the run x, whose own digits come to y
@@ -36,6 +37,10 @@ module _ (n : Numbers) (t : Bool) where
     pub room : (l : List ℕ) → i ≤ n.levels → count t n.levels ≤ length l → k ≤ length l
     room l h r = omega (arith, count_mono t i n.levels h)
 
+    -- what runs up to there ask: room, and that their numbers fit
+    pub asked : (l l' : List ℕ) → length l' ≡ length l → i ≤ n.levels → count t n.levels ≤ length l → (k ≤ length l') × (n.first + 512 * n.unit < 2 ^ 64)
+    asked l l' e h r = (omega (arith, room l h r), omega (arith, n.narrow, n.low))
+
     -- and after them the others
     pub grown : (b l l' : List ℕ) → i ≤ n.levels → Filled n t k b l → Filled n t (count t n.levels) l l' → Filled n t (count t n.levels) b l'
     grown b l l' h f g = then (nth_of n t) b l k f l' (count t n.levels) (omega (arith, count_mono t i n.levels h)) g
@@ -49,6 +54,12 @@ module _ (n : Numbers) (t : Bool) where
   stands k b l f = again (nth_of n t) b l k f
 
 module _ (n : Numbers) (l : List ℕ) where
+  -- the numbers of a run over the elements from a to e
+  pub run_fits : (a e q : ℕ) → e ≤ length l → e ≤ a + 7 → q ≤ n.first + 2 * n.unit → q + length (mid_of a (e - a) l) * n.unit < 2 ^ 64
+  run_fits a e q h g w =
+      let z : (e - a) * n.unit ≤ 7 * n.unit = mul-le-mul_right n.unit (omega arith) in
+      rw (mid_len a e l h) (omega (arith, z, n.narrow, n.low))
+
   one : (t : Bool) → 0 < length l → Filled n t 1 l (set l 0 n.first)
   one t h = put (nth_of n t) l n.first h (number_first n.first n.unit n.levels t)
 
@@ -57,30 +68,39 @@ module _ (n : Numbers) (l : List ℕ) where
 
   -- below a hexagon
   module _ (r : count false n.levels ≤ length l) where
-    pub hexagon_7 : (l' : List ℕ) → 1 ≤ n.levels → l' ≡ ramp l 0 n.first n.unit 7 → Filled n false 7 l l'
-    hexagon_7 l' h q = q ∙ ramped (nth_of n false) l l 0 n.first n.unit 7 (room n false 1 7 (omega arith) l h r) (λ j. hexagon_each n.first n.unit n.levels j h) (tab_none _ l)
+    pub hexagon_7 : (p : List ℕ) → 1 ≤ n.levels → p ≡ ramp (mid_of 0 7 l) 0 n.first n.unit (length (mid_of 0 7 l)) → Filled n false 7 l (put_mid 0 7 l p)
+    hexagon_7 p h q =
+        let k = room n false 1 7 (omega arith) l h r in
+        ramp_part l p 0 7 n.first n.unit (omega arith) k 7 refl q ∙ ramped (nth_of n false) l l 0 n.first n.unit 7 k (λ j. hexagon_each n.first n.unit n.levels j h) (tab_none _ l)
 
     pub hexagon_49 : (l' : List ℕ) → 2 ≤ n.levels → l' ≡ stairs l 0 n.first n.unit 7 → Filled n false 49 l l'
     hexagon_49 l' h q =
         q ∙ staired (nth_of n false) l l 0 n.first n.unit 7 (room n false 2 49 (omega arith) l h r)
         (λ x j g i. sibling false n.first n.unit n.levels x j x (0 + 7 * x + j) (n.first + x * (8 * n.unit) + j * n.unit) (omega arith) i (hexagon_block (n.levels - 1) x (omega arith) g) (omega arith) refl) (tab_none _ l)
 
-  -- below a pentagon
-  module _ (r : count true n.levels ≤ length l) where
-    pub pentagon_6 : (l' : List ℕ) → 1 ≤ n.levels → l' ≡ ramp (set l 0 n.first) 1 (n.first + 2 * n.unit) n.unit 5 → Filled n true 6 l l'
-    pentagon_6 l' h q =
+  -- below a pentagon, where p is what a run made of the elements 1 to 5
+  abbrev pub before : List ℕ
+  before = set l 0 n.first
+
+  abbrev pub six : List ℕ → List ℕ
+  six p = put_mid 1 5 before p
+
+  module _ (r : count true n.levels ≤ length l) (p : List ℕ) (q₁ : p ≡ ramp (mid_of 1 5 before) 0 (n.first + 2 * n.unit) n.unit (length (mid_of 1 5 before))) where
+    pub pentagon_6 : 1 ≤ n.levels → Filled n true 6 l (six p)
+    pentagon_6 h =
         let k = room n true 1 6 (omega arith) l h r in
-        q ∙ ramped (nth_of n true) l (set l 0 n.first) 1 (n.first + 2 * n.unit) n.unit 5 k (λ j. pentagon_each n.first n.unit n.levels j h) (one true (omega arith))
+        ramp_part before p 1 6 (n.first + 2 * n.unit) n.unit (omega arith) (omega (arith, k, length-set l 0 n.first)) 5 refl q₁
+        ∙ ramped (nth_of n true) l before 1 (n.first + 2 * n.unit) n.unit 5 k (λ j. pentagon_each n.first n.unit n.levels j h) (one true (omega arith))
 
-    pub pentagon_41 : (l₁ l' : List ℕ) → 2 ≤ n.levels → l₁ ≡ ramp (set l 0 n.first) 1 (n.first + 2 * n.unit) n.unit 5 → l' ≡ stairs l₁ 6 (n.first + 16 * n.unit) n.unit 5 → Filled n true 41 l l'
-    pentagon_41 l₁ l' h q₁ q =
-        q ∙ staired (nth_of n true) l l₁ 6 (n.first + 16 * n.unit) n.unit 5 (room n true 2 41 (omega arith) l h r)
-        (λ x j g i. sibling true n.first n.unit n.levels x j (x + 2) (6 + 7 * x + j) (n.first + 16 * n.unit + x * (8 * n.unit) + j * n.unit) (omega arith) i (pentagon_block (n.levels - 1) x (omega arith) g) (omega arith) (omega arith)) (pentagon_6 l₁ (omega arith) q₁)
+    pub pentagon_41 : (l' : List ℕ) → 2 ≤ n.levels → l' ≡ stairs (six p) 6 (n.first + 16 * n.unit) n.unit 5 → Filled n true 41 l l'
+    pentagon_41 l' h q =
+        q ∙ staired (nth_of n true) l (six p) 6 (n.first + 16 * n.unit) n.unit 5 (room n true 2 41 (omega arith) l h r)
+        (λ x j g i. sibling true n.first n.unit n.levels x j (x + 2) (6 + 7 * x + j) (n.first + 16 * n.unit + x * (8 * n.unit) + j * n.unit) (omega arith) i (pentagon_block (n.levels - 1) x (omega arith) g) (omega arith) (omega arith)) (pentagon_6 (omega arith))
 
-    pub pentagon_90 : (l₁ l₂ l' : List ℕ) → 3 ≤ n.levels → l₁ ≡ ramp (set l 0 n.first) 1 (n.first + 2 * n.unit) n.unit 5 → l₂ ≡ stairs l₁ 6 (n.first + 16 * n.unit) n.unit 5 → l' ≡ stairs l₂ 41 (n.first + 128 * n.unit) n.unit 7 → Filled n true 90 l l'
-    pentagon_90 l₁ l₂ l' h q₁ q₂ q =
+    pub pentagon_90 : (l₂ l' : List ℕ) → 3 ≤ n.levels → l₂ ≡ stairs (six p) 6 (n.first + 16 * n.unit) n.unit 5 → l' ≡ stairs l₂ 41 (n.first + 128 * n.unit) n.unit 7 → Filled n true 90 l l'
+    pentagon_90 l₂ l' h q₂ q =
         q ∙ staired (nth_of n true) l l₂ 41 (n.first + 128 * n.unit) n.unit 7 (room n true 3 90 (omega arith) l h r)
-        (λ x j g i. sibling true n.first n.unit n.levels (x + 5) j (x + 5 + 11) (41 + 7 * x + j) (n.first + 128 * n.unit + x * (8 * n.unit) + j * n.unit) (omega arith) i (pentagon_over (n.levels - 1) (x + 5) (omega arith) (omega arith) (omega arith)) (omega arith) (omega arith)) (pentagon_41 l₁ l₂ (omega arith) q₁ q₂)
+        (λ x j g i. sibling true n.first n.unit n.levels (x + 5) j (x + 5 + 11) (41 + 7 * x + j) (n.first + 128 * n.unit + x * (8 * n.unit) + j * n.unit) (omega arith) i (pentagon_over (n.levels - 1) (x + 5) (omega arith) (omega arith) (omega arith)) (omega arith) (omega arith)) (pentagon_41 l₂ (omega arith) q₂)
 
 tab_same : (f g : ℕ → ℕ) (k : ℕ) → ((p : ℕ) → p < k → f p ≡ g p) → tab f k ≡ tab g k
 unfolding tab

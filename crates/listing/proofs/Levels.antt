@@ -129,6 +129,10 @@ module _ (n : Numbers) (l₀ l : List ℕ) (at size step j : ℕ) where
         past : (a s c m : ℕ) → c ≡ a + 5 * s + 5 * (s * 7) → c ≤ m → 1 ≤ s → a + 12 * s ≤ m
         past a s c m e h o = omega arith
 
+    -- what each copy of a turn asks
+    pub copy_asked : j < n.levels - 1 → (l' : List ℕ) (a e d : ℕ) → length l' ≡ length l → size ≤ d → d ≤ a → a ≤ e → e ≤ at + 12 * size → (1 ≤ d) × (d ≤ a) × (a ≤ e) × (e ≤ length l')
+    copy_asked h l' a e d m o f g k = let r = pentagon_room h in (omega (arith, v.one), f, g, omega (arith, r.0))
+
     -- blocks 6 to 12, which are the first of the next level
     pub pentagon_turn : j < n.levels - 1 → (l₁ l₂ l₃ : List ℕ) → l₁ ≡ copies l (at + size) (at + 5 * size - (at + size)) size step →
         l₂ ≡ copies l₁ (at + 5 * size) (at + 5 * size + size - (at + 5 * size)) (5 * size) (14 * step) →

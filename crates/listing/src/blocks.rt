@@ -7,7 +7,7 @@ ghost use Rattle.listing.specs.Copies.{copies, ramp, stairs, number_at};
 
 use descent::Descent;
 
-// Each of the elements a to e - 1 is the one d before it, and s.
+// Each of the elements a to e - 1 is the one d before it, and s. By its index, since it reads what it wrote in the same buffer.
 #[tactic(auto, unfolding(crate::specs::Copies::copies))]
 fn spread(buf: &mut [u64], a: usize, e: usize, d: usize, s: u64)
     requires { (1 ≤ d) × (d ≤ a) × (a ≤ e) × (e ≤ length buf.old) }
@@ -18,28 +18,28 @@ fn spread(buf: &mut [u64], a: usize, e: usize, d: usize, s: u64)
     }
 }
 
-// The k elements from i on: q, q + s, ..
-#[tactic(auto, using(crate::proofs::Copies::set_part), unfolding(crate::specs::Copies::ramp))]
-fn run(buf: &mut [u64], i: usize, k: usize, q: u64, s: u64)
-    requires { (i + k ≤ length buf.old) × (q + k * s < 2 ^ 64) }
-    ensures { buf.new ≡ ramp buf.old i q s k }
+// All elements: q, q + s, ..
+#[tactic(auto, unfolding(crate::specs::Copies::ramp))]
+fn run(buf: &mut [u64], q: u64, s: u64)
+    requires { q + length buf.old * s < 2 ^ 64 }
+    ensures { buf.new ≡ ramp buf.old 0 q s (length buf.old) }
 {
     let mut v = q;
-    for x in &mut buf[i..i + k] {
+    for x in buf {
         *x = v;
         v += s;
     }
 }
 
 // From element i on, k runs of seven siblings; the first of each is 8 * s above that of the run before.
-#[tactic(auto, unfolding(crate::specs::Copies::stairs))]
+#[tactic(auto, using(crate::proofs::Copies::ramp_part), unfolding(crate::specs::Copies::stairs))]
 fn runs(buf: &mut [u64], i: usize, k: usize, q: u64, s: u64)
     requires { (i + 7 * k ≤ length buf.old) × (q + k * (8 * s) < 2 ^ 64) }
     ensures { buf.new ≡ stairs buf.old i q s k }
 {
     let mut v = q;
     for j in 0..k {
-        run(buf, i + 7 * j, 7, v, s);
+        run(&mut buf[i + 7 * j..i + 7 * j + 7], v, s);
         v += 8 * s;
     }
 }
@@ -86,7 +86,7 @@ impl Numbers {
             return;
         }
         if self.levels == 1 {
-            run(buf, 0, 7, self.first, self.unit);
+            run(&mut buf[..7], self.first, self.unit);
             return;
         }
         runs(buf, 0, 7, self.first, self.unit);
@@ -125,7 +125,7 @@ impl Numbers {
         if self.levels == 0 {
             return;
         }
-        run(buf, 1, 5, self.first + 2 * self.unit, self.unit);
+        run(&mut buf[1..6], self.first + 2 * self.unit, self.unit);
         if self.levels == 1 {
             return;
         }

@@ -8,22 +8,13 @@ loop-init c = levels.begun _ _ _ 41 refl (omega arith) (omega (arith, c.requires
 
 -- at a turn
 pub spread-requires : goal.spread-requires
-spread-requires c =
-    let v = c.loop.invariant in
-    let r = levels.pentagon_room _ _ _ _ _ _ _ c.requires.room v c.loop-test.true in
-    (v.one, omega arith, omega arith, omega (arith, r.0))
+spread-requires c = levels.copy_asked _ _ _ _ _ _ _ c.requires.room c.loop.invariant c.loop-test.true _ _ _ _ (omega arith) (omega arith) (omega arith) (omega arith) (omega arith)
 
 pub spread-requires-in-loop : goal.spread-requires-in-loop
-spread-requires-in-loop c =
-    let v = c.loop.invariant in
-    let r = levels.pentagon_room _ _ _ _ _ _ _ c.requires.room v c.loop-test.true in
-    (omega (arith, v.one), omega arith, omega arith, omega (arith, r.0))
+spread-requires-in-loop c = levels.copy_asked _ _ _ _ _ _ _ c.requires.room c.loop.invariant c.loop-test.true _ _ _ _ (omega arith) (omega arith) (omega arith) (omega arith) (omega arith)
 
 pub spread-requires-in-loop-2 : goal.spread-requires-in-loop-2
-spread-requires-in-loop-2 c =
-    let v = c.loop.invariant in
-    let r = levels.pentagon_room _ _ _ _ _ _ _ c.requires.room v c.loop-test.true in
-    (v.one, omega arith, omega arith, omega (arith, r.0))
+spread-requires-in-loop-2 c = levels.copy_asked _ _ _ _ _ _ _ c.requires.room c.loop.invariant c.loop-test.true _ _ _ _ (omega arith) (omega arith) (omega arith) (omega arith) (omega arith)
 
 pub loop-preserved : goal.loop-preserved
 loop-preserved c = levels.pentagon_turn _ _ _ _ _ _ _ c.requires.room c.loop.invariant c.loop-test.true _ _ _ c.spread.ensures c.spread-in-loop.ensures c.spread-in-loop-2.ensures
