@@ -32,6 +32,7 @@ fn run(buf: &mut [u64], q: u64, s: u64)
 }
 
 // From element i on, k runs of seven siblings; the first of each is 8 * s above that of the run before.
+// (Tried: over `chunks_mut(7)` the proof did not close.)
 #[tactic(auto, using(crate::proofs::Copies::ramp_part), unfolding(crate::specs::Copies::stairs))]
 fn runs(buf: &mut [u64], i: usize, k: usize, q: u64, s: u64)
     requires { (i + 7 * k ≤ length buf.old) × (q + k * (8 * s) < 2 ^ 64) }
