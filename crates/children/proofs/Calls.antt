@@ -103,6 +103,10 @@ unfolding next_of
 child_call c e z = rw (e, ne_eqb c.left 0 z)
 
 module _ (c : Cursor) (n p : ℕ) (s : Spot c n p) where
+  -- the skip, read back from its bits
+  read : to_z w32 (of_z w32 c.skip) ≡ skip_of n c.number
+  read = to_z-of_z (subst (SFits w32) (sym s.skip) (skip_fits n c.number)) ∙ s.skip
+
   -- the cursor after the last child
   pub last_cursor : c.left ≡ 1 →
       ◌≡◌ {A = Cursor} (record { own = c.own; target = c.target; number = c.number; skip = to_z w32 (of_z w32 c.skip); left = 0 }) (cursor_after n c.target (p + 1))
@@ -111,23 +115,18 @@ module _ (c : Cursor) (n p : ℕ) (s : Spot c n p) where
       let m : p + c.left ≡ count_of n t = s.more (λ z. omega arith) in
       let k : count_of n t - 1 ≡ p = omega arith in
       let y : child_at n t (count_of n t - 1) ≡ c.number = ap (child_at n t) k ∙ sym s.here in
-      let f : to_z w32 (of_z w32 c.skip) ≡ c.skip = to_z-of_z (subst (SFits w32) (sym s.skip) (skip_fits n c.number)) in
-      same_cursor _ _ (sym s.own) refl (sym y) (f ∙ s.skip ∙ ap (skip_of n) (sym y)) refl
+      same_cursor _ _ (sym s.own) refl (sym y) (read ∙ ap (skip_of n) (sym y)) refl
       ∙ sym (cursor_end n t (p + 1) (omega arith))
-
-  -- the skip, read back from its bits
-  read : to_z w32 (of_z w32 c.skip) ≡ skip_of n c.number
-  read = to_z-of_z (subst (SFits w32) (sym s.skip) (skip_fits n c.number)) ∙ s.skip
 
   module _ (h : 2 ≤ c.left) where
     further : suc p < count_of n c.target
     further = let m = s.more (λ z. omega arith) in omega arith
 
-    pub asked : Inner c.number (to_z w32 (of_z w32 c.skip)) c.own × (c.target ≡ res_of c.number)
+    pub asked : Inner c.number c.skip c.own × (c.target ≡ res_of c.number)
     asked =
         let i = moves.inner_child n c.target s.fits s.valid s.low s.high p further in
         let j : Inner c.number (skip_of n c.number) (res_of n) = subst (λ (y : ℕ). Inner y (skip_of n y) (res_of n)) (sym s.here) i in (
-          subst (λ (z : ℤ). Inner c.number z c.own) (sym read) (subst (λ (o : ℕ). Inner c.number (skip_of n c.number) o) s.own j),
+          subst (λ (z : ℤ). Inner c.number z c.own) (sym s.skip) (subst (λ (o : ℕ). Inner c.number (skip_of n c.number) o) s.own j),
           sym (ap res_of s.here ∙ child_res n c.target s.fits s.valid s.low s.high p s.under),
         )
 

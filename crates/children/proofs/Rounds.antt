@@ -19,6 +19,7 @@ use Rattle.plane.specs.Strings.{Digits}
 use Rattle.plane.proofs.Bounds.{fits, rd, equal_bits}
 use Rattle.index.proofs.Runs.{place, eights_pos}
 use Rattle.children.specs.Skips.{Inner, Following}
+use Rattle.children.specs.declared.children.Cursor.{Cursor}
 use Rattle.children.proofs.Carry.{skips_at, octs, carried, fallen, Advanced}
 use Rattle.children.proofs.Moves.{inner_asked, follow}
 use Rattle.children.proofs.Odometer as odo
@@ -138,7 +139,7 @@ pub record Round (x : ℕ) (z : ℤ) (own target a r one d : ℕ) : Type 0 where
   pub hop : d ≡ 1 → of_z w32 z ≡ r → Following x own (a + one + one) (rd (rd z -ℤ pos 1))
   pub hit : Elsewhere z r d → d < 7 → Following x own (a + one) (rd z)
   pub enough : Elsewhere z r d → 7 ≤ d → 7 * one ≤ a + one
-  pub again : Elsewhere z r d → 7 ≤ d → Kept x (rd z) own target (a + one - 7 * one) (r - 1)
+  pub again : Elsewhere z r d → 7 ≤ d → Kept x z own target (a + one - 7 * one) (r - 1)
 
 small_fits : (r : ℕ) → r ≤ 15 → SFits w32 (pos r)
 small_fits r h = fits (pos r) (omega arith)
@@ -160,34 +161,49 @@ less_one z r f h e =
     ap (λ (u : ℤ). rd (u -ℤ pos 1)) (to_z-of_z f) ∙ ap rd (-ℤ_one z) ∙ to_z-of_z (subst (λ (u : ℤ). SFits w32 (pred_ℤ u)) (sym e) (pred_fits r h))
 
 -- in the words of `advance`
-module _ (x : ℕ) (z : ℤ) (own target : ℕ) (h64 : x < 2 ^ 64) (f : SFits w32 z) (i : Inner x z own) (e : target ≡ res_of x) where
-  pub start : Kept x (rd z) own target x target
-  start = let a = inner_asked x own z h64 i target e in rw (to_z-of_z f) (begin x z own target a.0 a.1 a.2 a.3)
+module _ (s : Cursor) (h64 : s.number < 2 ^ 64) (f : SFits w32 s.skip) (q : Inner s.number s.skip s.own × (s.target ≡ res_of s.number)) where
+  abbrev x : ℕ
+  x = s.number
 
-  module _ (a r : ℕ) (k : Kept x (rd z) own target a r) where
-    plain : Kept x z own target a r
-    plain = rw (to_z-of_z f) at k
+  abbrev z : ℤ
+  z = s.skip
 
-    pub finish : r ≤ own → Following x own a (rd z)
-    finish h = rw (to_z-of_z f) (follow x own z h64 i target a z e (end x z own target a r plain h))
+  abbrev own : ℕ
+  own = s.own
+
+  abbrev target : ℕ
+  target = s.target
+
+  abbrev i : Inner x z own
+  i = q.0
+
+  abbrev e : target ≡ res_of x
+  e = q.1
+
+  pub start : Kept x z own target x target
+  start = let a = inner_asked x own z h64 i target e in begin x z own target a.0 a.1 a.2 a.3
+
+  module _ (a r : ℕ) (k : Kept x z own target a r) where
+    pub finish : (y : ℕ) → y ≡ a → r ≤ own → Following x own y (rd z)
+    finish y g h = rw (g, to_z-of_z f) (follow x own z h64 i target a z e (end x z own target a r k h))
 
     module _ (h : own < r) (at one : ℕ) (ea : at ≡ r) (ew : one ≡ 8 ^ (15 - at)) where
       eu : one ≡ 8 ^ (15 - r)
       eu = rw (← ea) ew
 
       pub unit_small : one * 8 ≤ 2 ^ 45
-      unit_small = one_small x z own target a r plain h one eu
+      unit_small = one_small x z own target a r k h one eu
 
       pub round : (d : ℕ) → d ≡ digit (a + one) at → Round x z own target a r one d
       round d e' =
-          let w = plain.high in
+          let w = k.high in
           let ed : d ≡ digit (a + one) r = rw (← ea) e' in
           record {
             hop = λ g s.
                 let z_is : z ≡ pos r = skips z r f (omega arith) s in
                 let t : eqb d 1 && skips_at z r ≡ true = rw (g, z_is) (eq-eqb r r refl) in
-                rw (less_one z r f (omega arith) z_is) (follow x own z h64 i target (a + one + one) (pred_ℤ z) e (hop x z own target a r plain h one eu d ed t));
-            hit = λ q g. rw (to_z-of_z f) (follow x own z h64 i target (a + one) z e (hit x z own target a r plain h one eu d ed (elsewhere z r d f w q) g));
-            enough = λ q g. enough x z own target a r plain h one eu d ed (elsewhere z r d f w q) g;
-            again = λ q g. rw (to_z-of_z f) (again x z own target a r plain h one eu d ed (elsewhere z r d f w q) g);
+                rw (less_one z r f (omega arith) z_is) (follow x own z h64 i target (a + one + one) (pred_ℤ z) e (hop x z own target a r k h one eu d ed t));
+            hit = λ q g. rw (to_z-of_z f) (follow x own z h64 i target (a + one) z e (hit x z own target a r k h one eu d ed (elsewhere z r d f w q) g));
+            enough = λ q g. enough x z own target a r k h one eu d ed (elsewhere z r d f w q) g;
+            again = λ q g. again x z own target a r k h one eu d ed (elsewhere z r d f w q) g;
           }

@@ -10,28 +10,6 @@ use descent::Descent;
 use index::inside::get_direction;
 use index::{Cell, Resolution};
 
-// From a child of a cell of resolution `own` to the next, and to the resolution where the digit 1 is skipped then, or -1.
-fn advance(number: u64, skip: i32, own: u64, target: u64) -> (u64, i32)
-    requires { Inner number skip own × (target ≡ res_of number) }
-    ensures { Following number own result.0 result.1 }
-{
-    let mut bits = number;
-    for r in (own + 1..=target).rev() {
-        let at = Resolution::new_unchecked(r);
-        let one = at.place();
-        bits += one;
-        let d = get_direction(bits, at);
-        if d == 1 && skip == r as i32 {
-            return (bits + one, skip - 1);
-        }
-        if d < 7 {
-            return (bits, skip);
-        }
-        bits -= 7 * one;
-    }
-    (bits, skip)
-}
-
 // The skip below a cell where the digits 1 to z are 0 and no more: the digit 1 of resolution z is the next to be skipped.
 pub(crate) fn skip_count(cell: Cell, z: u64) -> i32
     requires { z ≤ 15 }
@@ -74,6 +52,28 @@ pub fn fresh(d: Descent) -> Cursor
 }
 
 impl Cursor {
+    // The number of the next child, and the resolution where the digit 1 is skipped then, or -1.
+    fn advance(self) -> (u64, i32)
+        requires { Inner self.number self.skip self.own × (self.target ≡ res_of self.number) }
+        ensures { Following self.number self.own result.0 result.1 }
+    {
+        let mut bits = self.number;
+        for r in (self.own as u64 + 1..=self.target as u64).rev() {
+            let at = Resolution::new_unchecked(r);
+            let one = at.place();
+            bits += one;
+            let d = get_direction(bits, at);
+            if d == 1 && self.skip == r as i32 {
+                return (bits + one, self.skip - 1);
+            }
+            if d < 7 {
+                return (bits, self.skip);
+            }
+            bits -= 7 * one;
+        }
+        (bits, self.skip)
+    }
+
     pub fn next(self) -> Given
         ensures { result ≡ next_of self }
     {
@@ -84,12 +84,7 @@ impl Cursor {
             0 => Given::Done(self),
             1 => Given::Child(self.number, Cursor { left: 0, ..self }),
             left => {
-                let (number, skip) = advance(
-                    self.number,
-                    self.skip,
-                    self.own as u64,
-                    self.target as u64,
-                );
+                let (number, skip) = self.advance();
                 let following = Cursor {
                     number,
                     skip,
