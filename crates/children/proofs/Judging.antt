@@ -1,6 +1,7 @@
 -- The judging of a cursor, in the words of its calls. Assumes nothing.
 use mathlib.Core.Path.{◌≡◌, refl, sym, ap, ◌∙◌}
 use mathlib.Core.Bool.{Bool, true, false, cond}
+use mathlib.Core.Logic.{◌⊎◌, inl, inr}
 use Prim.Native.Nat.{ℕ, zero, suc, ◌+◌, ◌-◌, ◌^◌, ◌≤◌, ◌<◌, max}
 use native.Mathlib.Omega.{arith}
 use lib.Dec.{eqb}
@@ -38,6 +39,12 @@ pub record Judged (c : Cursor) (y fine owner total p : ℕ) : Type 0 where
   pub not_counted : (m : ℕ) → m ≡ max c.left 1 → (total - p ≡ m → ⊥) → eqb (total - p) m ≡ legal c
   pub all_counted : (m : ℕ) → m ≡ max c.left 1 → total - p ≡ m → (z : ℕ) (k : ℤ) → SFits w32 c.skip → z ≡ lead (used y fine) → k ≡ cond (pentagon owner) (pos z) (negsuc 0) → eqb (of_z w32 c.skip) (of_z w32 k) ≡ legal c
 
+-- a cursor by its owner, whose resolution is not finer than `fine`
+pub record Owned (c : Cursor) (y fine owner : ℕ) : Type 0 where
+  pub low : res_of owner ≤ fine
+  pub above : (res_of owner ≤ res_of y) × (ancestor_of y (res_of owner) ≡ owner)
+  pub judged : (total p : ℕ) → total ≡ count_of owner fine → p ≡ position_of owner y → Judged c y fine owner total p
+
 -- what `is_legal` reads
 module _ (c : Cursor) (y target fine : ℕ) (h64 : c.number < 2 ^ 64) (v : Valid c.number) (ey : y ≡ c.number) (et : target ≡ fine) (ef : fine ≡ res_of y) where
   yes_cell : accepted (check_of c.number) ≡ true
@@ -46,14 +53,14 @@ module _ (c : Cursor) (y target fine : ℕ) (h64 : c.number < 2 ^ 64) (v : Valid
   target_is : target ≡ res_of c.number
   target_is = et ∙ ef ∙ ap res_of ey
 
-  pub other_target : (target ≡ c.target → ⊥) → false ≡ legal c
+  other_target : (target ≡ c.target → ⊥) → false ≡ legal c
   other_target h = rw (yes_cell, ne_eqb (res_of c.number) c.target (λ e. h (target_is ∙ e)))
 
   module _ (h : target ≡ c.target) where
     same_target : eqb (res_of c.number) c.target ≡ true
     same_target = eq-eqb (res_of c.number) c.target (sym target_is ∙ h)
 
-    pub too_coarse : target < c.own → false ≡ legal c
+    too_coarse : target < c.own → false ≡ legal c
     too_coarse g = rw (yes_cell, same_target, lt-leb c.own c.target (omega arith))
 
     module _ (l : c.own ≤ target) (coarse owner : ℕ) (ec : coarse ≡ c.own) (eo : owner ≡ ancestor_of y coarse) where
@@ -69,11 +76,10 @@ module _ (c : Cursor) (y target fine : ℕ) (h64 : c.number < 2 ^ 64) (v : Valid
       own_is' : res_of owner ≡ coarse
       own_is' = ap res_of owner_is ∙ own_is c.number c.own h64 v low ∙ sym ec
 
-      -- what `rank_of` and `Descent::new` ask
-      pub owner_low : res_of owner ≤ fine
+      owner_low : res_of owner ≤ fine
       owner_low = omega (arith, own_is')
 
-      pub owner_above : (res_of owner ≤ res_of y) × (ancestor_of y (res_of owner) ≡ owner)
+      owner_above : (res_of owner ≤ res_of y) × (ancestor_of y (res_of owner) ≡ owner)
       owner_above = (omega (arith, own_is'), rw own_is' (sym eo))
 
       module _ (total p : ℕ) (eq : total ≡ count_of owner fine) (er : p ≡ position_of owner y) where
@@ -104,5 +110,12 @@ module _ (c : Cursor) (y target fine : ℕ) (h64 : c.number < 2 ^ 64) (v : Valid
               let q : k ≡ skip_of n c.number = ek ∙ rw (owner_is, ez, ef, ey) refl in
               rw q (equal_bits c.skip (skip_of n c.number) fs (skip_fits n c.number)) ∙ sym (placed_legal (equal c.skip (skip_of n c.number)) (rw u refl))
 
-        pub judged : Judged c y fine owner total p
+        judged : Judged c y fine owner total p
         judged = record { under = under; not_counted = not_counted; all_counted = all_counted }
+
+      pub owned : Owned c y fine owner
+      owned = record { low = owner_low; above = owner_above; judged = judged }
+
+  pub unfit : (target ≡ c.target → ⊥) ⊎ ((target ≡ c.target) × (target < c.own)) → false ≡ legal c
+  unfit (inl h) = other_target h
+  unfit (inr g) = too_coarse g.0 g.1

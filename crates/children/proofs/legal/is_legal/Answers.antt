@@ -1,43 +1,32 @@
 -- By the laws of `Judging`.
-use Rattle.std.proofs.Common.{◌≡◌, arith, ⊎_elim}
+use Rattle.std.proofs.Common.{arith, ⊎_elim, inl, inr}
 use borrow.Author.Rules.{sfits_of}
-use Rattle.index.specs.Layout.{Valid}
 use Rattle.index.proofs.Answers.{of_cell}
 use Rattle.children.proofs.Judging as judging
-use Rattle.children.proofs.Judging.{Judged}
+use Rattle.children.proofs.Judging.{Judged, Owned}
 use Rattle.children.proofs.legal.is_legal.Goals as goal
-use Rattle.children.proofs.legal.is_legal.Goals.{In-Ok, After-rank_of-p}
-
-cell : (c : In-Ok) → (c.in-Ok.y ≡ c.args.cursor.number) × Valid c.args.cursor.number
-cell c = of_cell c.args.cursor.number c.check.result c.in-Ok.y c.in-Ok.is c.check.ensures
+use Rattle.children.proofs.legal.is_legal.Goals.{In-Ok, After-ancestor-owner, After-rank_of-p}
 
 pub returns-then-target-cursor : goal.returns-then-target-cursor
 returns-then-target-cursor c =
-    let k = cell (goal.at.returns-then-target-cursor c).In-Ok in
-    let s = c.args.cursor in
-    ⊎_elim
-    (λ h. judging.other_target s c.in-Ok.y _ _ (omega arith) k.1 k.0 c.number-target.ensures.value c.resolution-fine.ensures h)
-    (λ (h, g). judging.too_coarse s c.in-Ok.y _ _ (omega arith) k.1 k.0 c.number-target.ensures.value c.resolution-fine.ensures (omega arith) g)
-    c.then-target-cursor.either
+    let k = of_cell c.args.cursor.number c.check.result c.in-Ok.y c.in-Ok.is c.check.ensures in
+    judging.unfit c.args.cursor c.in-Ok.y _ _ (omega arith) k.1 k.0 c.number-target.ensures.value c.resolution-fine.ensures (⊎_elim inl (λ h. inr (omega arith, h.1)) c.then-target-cursor.either)
 
-pub new-requires : goal.new-requires
-new-requires c =
-    let k = cell (goal.at.new-requires c).In-Ok in
-    judging.owner_low c.args.cursor c.in-Ok.y _ _ (omega arith) k.1 k.0 c.number-target.ensures.value c.resolution-fine.ensures c.if-target-cursor.false c.if-target-own.false
+owned : (c : After-ancestor-owner) → Owned c.args.cursor c.in-Ok.y c.resolution-fine.result c.ancestor-owner.result
+owned c =
+    let k = of_cell c.args.cursor.number c.check.result c.in-Ok.y c.in-Ok.is c.check.ensures in
+    judging.owned c.args.cursor c.in-Ok.y _ _ (omega arith) k.1 k.0 c.number-target.ensures.value c.resolution-fine.ensures c.if-target-cursor.false c.if-target-own.false
     _ _ c.new_unchecked-coarse.ensures c.ancestor-owner.ensures
 
+pub new-requires : goal.new-requires
+new-requires c = (owned (goal.at.new-requires c).After-ancestor-owner).low
+
 pub rank_of-p-requires : goal.rank_of-p-requires
-rank_of-p-requires c =
-    let k = cell (goal.at.rank_of-p-requires c).In-Ok in
-    let h = judging.owner_above c.args.cursor c.in-Ok.y _ _ (omega arith) k.1 k.0 c.number-target.ensures.value c.resolution-fine.ensures c.if-target-cursor.false c.if-target-own.false
-    _ _ c.new_unchecked-coarse.ensures c.ancestor-owner.ensures in
-    record { coarse = h.0; owner = h.1 }
+rank_of-p-requires c = let h = (owned (goal.at.rank_of-p-requires c).After-ancestor-owner).above in record { coarse = h.0; owner = h.1 }
 
 judged : (c : After-rank_of-p) → Judged c.args.cursor c.in-Ok.y c.resolution-fine.result c.ancestor-owner.result c.count-total.result c.rank_of-p.result
 judged c =
-    let k = cell (goal.at.overflow_sub-total c).In-Ok in
-    judging.judged c.args.cursor c.in-Ok.y _ _ (omega arith) k.1 k.0 c.number-target.ensures.value c.resolution-fine.ensures c.if-target-cursor.false c.if-target-own.false
-    _ _ c.new_unchecked-coarse.ensures c.ancestor-owner.ensures _ _ (rw (← c.new.ensures.cell, ← c.new.ensures.target) c.count-total.ensures) c.rank_of-p.ensures
+    (owned (goal.at.overflow_sub-total c).After-ancestor-owner).judged _ _ (rw (← c.new.ensures.cell, ← c.new.ensures.target) c.count-total.ensures) c.rank_of-p.ensures
 
 pub overflow_sub-total : goal.overflow_sub-total
 overflow_sub-total c = let h = (judged c).under in omega (arith, h)
