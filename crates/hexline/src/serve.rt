@@ -22,7 +22,7 @@ pub fn serve(mut input: Stdin, output: Stdout) {
         }
     }
     if !line.is_empty() {
-        let _ = answer(&mut out, &line.closed());
+        answer(&mut out, &line.closed());
     }
     out.flush();
 }
@@ -32,7 +32,7 @@ pub fn serve(mut input: Stdin, output: Stdout) {
 fn scan(out: &mut Out, mut line: Line, block: &[u8]) -> Line {
     for b in block {
         if *b == b'\n' {
-            let _ = answer(out, &line.closed());
+            answer(out, &line.closed());
             line = Line::new();
         } else {
             line = line.fed(*b);

@@ -51,6 +51,7 @@ fn image(a: u8, p: IJK, ccw: bool) -> IJK
 }
 
 // Down by aperture 7.
+#[tactic(auto, using(crate::proofs::Rows::down7_shape))]
 pub fn down_aperture7(p: IJK, ccw: bool) -> IJK
     requires { Within 250000000 p }
     ensures { result ≡ points.normal (points.down7 ccw p) }
@@ -59,6 +60,7 @@ pub fn down_aperture7(p: IJK, ccw: bool) -> IJK
 }
 
 // Down by aperture 3.
+#[tactic(auto, using(crate::proofs::Rows::down3_shape))]
 pub fn down_aperture3(p: IJK, ccw: bool) -> IJK
     requires { Within 250000000 p }
     ensures { result ≡ points.normal (points.down3 ccw p) }
@@ -67,6 +69,7 @@ pub fn down_aperture3(p: IJK, ccw: bool) -> IJK
 }
 
 // Turned by 60 degrees.
+#[tactic(auto, using(crate::proofs::Rows::turned_shape))]
 pub fn rotate60(p: IJK, ccw: bool) -> IJK
     requires { Within 250000000 p }
     ensures { result ≡ points.normal (points.turned ccw p) }

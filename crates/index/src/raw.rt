@@ -18,6 +18,7 @@ const CELL_HEAD: u64 = 8;
 const SIXES: u64 = 0o666666666666666;
 
 // One in the place of each digit that is 7.
+#[tactic(auto, using(crate::proofs::Flags::marked))]
 fn marks(n: u64) -> u64
     ensures { Each mark n result }
 {
@@ -25,6 +26,7 @@ fn marks(n: u64) -> u64
 }
 
 // The marks of a number that has 7 past the resolution r and nowhere else.
+#[tactic(auto, using(crate::proofs::Flags::ones_shifted))]
 fn unused(r: Resolution) -> u64
     ensures { result ≡ ones (15 - r) }
 {
@@ -32,6 +34,7 @@ fn unused(r: Resolution) -> u64
 }
 
 // The low bits of the digits, in pentagon base cells; elsewhere 0. They exceed the digits' other bits exactly if the first digit that is not 0 is 1.
+#[tactic(auto, using(crate::proofs::Leading::lows))]
 fn low_bits(n: u64, base: u64) -> u64
     requires { base ≤ 127 }
     ensures { Each (λ d. (if is_pentagonal base then low d else 0)) n result }

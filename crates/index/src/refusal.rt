@@ -35,6 +35,11 @@ impl Refusal {
 }
 
 impl fmt::Display for Refusal {
+    ghost use Rattle.std.specs.Prelude.{Some, ◌++◌, codes, decimal};
+    ghost use Rattle.index.specs.Told.{number};
+
+    ghost output = { λ x. Some (codes "refusal " ++ decimal (number x)) };
+
     fn fmt<W: fmt::Write>(&self, f: &mut fmt::Formatter<W>) -> fmt::Result {
         write!(f, "refusal {}", self.number())
     }

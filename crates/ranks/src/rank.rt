@@ -79,6 +79,7 @@ pub fn rank_of(c: Cell, y: Cell) -> u64
     let p = in_sevens(v);
     if c.is_pentagon() {
         let z = u64::leading_zeros(v) as u64;
+        // v has 64 - z bits, so (66 - z) / 3 digits.
         let taken = (sevens((66 - z) / 3) - 1) / 6;
         return p - taken;
     }

@@ -10,6 +10,7 @@ use Rattle.plane.specs.Inside.{Is}
 use Rattle.plane.specs.declared.ijk.IJ.{IJ}
 use Rattle.plane.proofs.Bounds.{fits, rd, abs_neg}
 use Rattle.images.proofs.image.up_aperture7.Goals as goal
+use Rattle.images.proofs.image.up_aperture7.Goals.{After-to_ij-q}
 
 -- a number z of the IJ form, as it is read from x, and its negative
 record Read (x z : ℤ) : Type 0 where
@@ -27,22 +28,24 @@ read x z f e h =
 given : (a : ℕ) (x y u v r : ℤ) → x ≡ u → y ≡ v → Is (nearest (pos a *ℤ x +ℤ y)) 1000000000 r → rd r ≡ nearest (pos a *ℤ u +ℤ v)
 given a x y u v r p q e = to_z-of_z e.fits ∙ e.is ∙ ap₂ (λ (x y : ℤ). nearest (pos a *ℤ x +ℤ y)) p q
 
+-- both numbers
+known : (c : After-to_ij-q) → Read c.to_ij-q.result.i (ij c.args.p).i × Read c.to_ij-q.result.j (ij c.args.p).j
+known c =
+    let q = c.to_ij-q in
+    (read q.result.i _ (search sfits_of) (ap (λ (q : IJ). q.i) q.ensures) c.requires.i, read q.result.j _ (search sfits_of) (ap (λ (q : IJ). q.j) q.ensures) c.requires.j)
+
 pub returns-then-ccw : goal.returns-then-ccw
 returns-then-ccw c =
-    let p = c.args.p in
-    let u = ij p in
-    let i = read c.to_ij-q.result.i u.i (search sfits_of) (ap (λ (q : IJ). q.i) c.to_ij-q.ensures) c.requires.i in
-    let j = read c.to_ij-q.result.j u.j (search sfits_of) (ap (λ (q : IJ). q.j) c.to_ij-q.ensures) c.requires.j in
+    let u = ij c.args.p in
+    let r = known (goal.at.returns-then-ccw c).After-to_ij-q in
     c.of_ij.ensures
-    ∙ ap₂ (λ (x y : ℤ). of_ij (pair x y)) (given 3 _ _ u.i (neg_ℤ u.j) c.seventh.result i.is j.neg c.seventh.ensures) (given 2 _ _ u.j u.i c.seventh-then-ccw.result j.is i.is c.seventh-then-ccw.ensures ∙ ap nearest (+ℤ_comm (pos 2 *ℤ u.j) u.i))
-    ∙ ap (λ (o : Bool). up7 o p) (sym c.if-ccw.true)
+    ∙ ap₂ (λ (x y : ℤ). of_ij (pair x y)) (given 3 _ _ u.i (neg_ℤ u.j) c.seventh.result r.0.is r.1.neg c.seventh.ensures) (given 2 _ _ u.j u.i c.seventh-then-ccw.result r.1.is r.0.is c.seventh-then-ccw.ensures ∙ ap nearest (+ℤ_comm (pos 2 *ℤ u.j) u.i))
+    ∙ ap (λ (o : Bool). up7 o c.args.p) (sym c.if-ccw.true)
 
 pub returns-else-ccw : goal.returns-else-ccw
 returns-else-ccw c =
-    let p = c.args.p in
-    let u = ij p in
-    let i = read c.to_ij-q.result.i u.i (search sfits_of) (ap (λ (q : IJ). q.i) c.to_ij-q.ensures) c.requires.i in
-    let j = read c.to_ij-q.result.j u.j (search sfits_of) (ap (λ (q : IJ). q.j) c.to_ij-q.ensures) c.requires.j in
+    let u = ij c.args.p in
+    let r = known (goal.at.returns-else-ccw c).After-to_ij-q in
     c.of_ij-else-ccw.ensures
-    ∙ ap₂ (λ (x y : ℤ). of_ij (pair x y)) (given 2 _ _ u.i u.j c.seventh-else-ccw.result i.is j.is c.seventh-else-ccw.ensures) (given 3 _ _ u.j (neg_ℤ u.i) c.seventh-else-ccw-2.result j.is i.neg c.seventh-else-ccw-2.ensures)
-    ∙ ap (λ (o : Bool). up7 o p) (sym c.if-ccw.false)
+    ∙ ap₂ (λ (x y : ℤ). of_ij (pair x y)) (given 2 _ _ u.i u.j c.seventh-else-ccw.result r.0.is r.1.is c.seventh-else-ccw.ensures) (given 3 _ _ u.j (neg_ℤ u.i) c.seventh-else-ccw-2.result r.1.is r.0.neg c.seventh-else-ccw-2.ensures)
+    ∙ ap (λ (o : Bool). up7 o c.args.p) (sym c.if-ccw.false)

@@ -63,6 +63,5 @@ cleared n b s u lo d eb eu m w l ed z =
 pub returns : goal.returns
 returns c t =
     let n : ℕ = c.args.n in
-    let eu = c.unused-u.ensures ∙ ap (λ (r : ℕ). ones (15 - r)) c.get_resolution.ensures in
     clear_answered (cell_rules n) n
-    (cleared n _ _ _ _ _ c.get_base_cell-base.ensures eu c.marks-s.ensures c.low_bits.ensures c.wrapping_sub_u64-deleted.type_inv c.wrapping_sub_u64-deleted.ensures.value (eqb-true _ _ t))
+    (cleared n _ _ _ _ _ c.get_base_cell-base.ensures (rw c.get_resolution.ensures at c.unused-u.ensures) c.marks-s.ensures c.low_bits.ensures c.wrapping_sub_u64-deleted.type_inv c.wrapping_sub_u64-deleted.ensures.value (eqb-true _ _ t))

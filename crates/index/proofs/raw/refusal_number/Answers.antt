@@ -1,5 +1,5 @@
 -- Seven tests, each before those after it.
-use Rattle.std.proofs.Common.{◌≡◌, ℕ, ◌-◌, ◌/◌, ◌%◌, ◌^◌, ◌<◌, ◌≤◌, false, not, eqb, ltb, cond, ap, ◌∙◌, arith}
+use Rattle.std.proofs.Common.{◌≡◌, ℕ, ◌-◌, ◌/◌, ◌%◌, ◌^◌, ◌<◌, ◌≤◌, false, not, eqb, ltb, cond, ap, arith}
 use borrow.Author.Tests.{eqb-false}
 use native.Mathlib.Nat.{div-div-eq-div-mul}
 use lib.Bits.{bit_and}
@@ -40,8 +40,7 @@ ladder n base u s lo reserved top k7 k6 k5 k4 k3 k2 k f eb eu m w er et e7 e6 e5
 
 pub returns : goal.returns
 returns c =
-    let eu = c.unused-u.ensures ∙ ap (λ (r : ℕ). ones (15 - r)) c.get_resolution.ensures in
     ladder c.args.n c.get_base_cell-base.result c.unused-u.result c.marks-s.result c.low_bits.result c.get_reserved.result c.get_top.result
     c.sel-k7.result c.sel-k6.result c.sel-k5.result c.sel-k4.result c.sel-k3.result c.sel-k2.result c.sel.result
-    c.ranges.n.fits c.get_base_cell-base.ensures eu c.marks-s.ensures c.low_bits.ensures c.get_reserved.ensures c.get_top.ensures
+    c.ranges.n.fits c.get_base_cell-base.ensures (rw c.get_resolution.ensures at c.unused-u.ensures) c.marks-s.ensures c.low_bits.ensures c.get_reserved.ensures c.get_top.ensures
     c.sel-k7.ensures c.sel-k6.ensures c.sel-k5.ensures c.sel-k4.ensures c.sel-k3.ensures c.sel-k2.ensures c.sel.ensures

@@ -1,8 +1,0 @@
--- The shape that the images share, at this one.
-use Rattle.std.proofs.Common.{ap, ◌∙◌}
-use Rattle.plane.specs.Points.{normal}
-use Rattle.images.proofs.Rows.{turned_shape}
-use Rattle.images.proofs.image.rotate60.Goals as goal
-
-pub returns : goal.returns
-returns c = c.image.ensures ∙ ap normal (turned_shape c.args.ccw c.args.p)
