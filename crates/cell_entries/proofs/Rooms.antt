@@ -20,6 +20,10 @@ refuses rules more a k n t b x r e f = (
   subst (λ (o : Outcome ℕ). b ≡ afterwards o n t b) (sym (early rules more a k (number x) (sym e))) refl,
 )
 
+-- what the judge of a cell and a finer resolution refuses the entry refuses, whatever rules follow
+pub not_finer : {A : Type 0} (raw t : ℕ) (more : List Rule) (b : A) (x : Refusal) (r : Result A Refusal) → refused (number x) ≡ finer_of raw t → IsErrAnd r (λ y. y ≡ x) → told r ≡ judged (finer_rules raw t ++ more) b
+not_finer raw t more b = hit_judge (finer_rules raw t) more (raw, t) b
+
 -- a cell and a resolution that pass are those that were handed in, and only the room is left to judge
 pub goes_on : (raw t c u : ℕ) (b l : List ℕ) (o : Outcome ℕ) → answered (c, u) ≡ finer_of raw t →
     o ≡ room_of c u (length b) → l ≡ afterwards (room_of c u (length b)) c u b →

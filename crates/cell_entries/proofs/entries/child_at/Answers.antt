@@ -1,9 +1,5 @@
-use Rattle.std.proofs.Common.{[], ◌∷◌, not, ltb}
-use Rattle.index.specs.Refusals.{◌when◌}
-use Rattle.descent.specs.Descendants.{count_of}
-use Rattle.entry.proofs.Judges.{hit_judge}
-use Rattle.cell_entries.specs.Cells.{finer_rules}
+use Rattle.cell_entries.proofs.Rooms.{not_finer}
 use Rattle.cell_entries.proofs.entries.child_at.Goals as goal
 
 pub returns-in_err-d : goal.returns-in_err-d
-returns-in_err-d c = hit_judge (finer_rules c.args.raw c.args.target) ((11 when not (ltb c.args.position (count_of c.args.raw c.args.target))) ∷ []) _ _ _ _ c.in_err-d.ensures c.from_residual.ensures.1
+returns-in_err-d c = not_finer c.args.raw c.args.target _ _ _ _ c.in_err-d.ensures c.from_residual.ensures.1

@@ -1,17 +1,14 @@
 -- By the laws of `Rooms`.
-use Rattle.std.proofs.Common.{◌+◌, ◌∙◌, [], ◌∷◌, length, ltb}
+use Rattle.std.proofs.Common.{◌+◌, ◌∙◌}
 use Rattle.index.specs.Layout.{res_of}
-use Rattle.index.specs.Refusals.{◌when◌, answered}
+use Rattle.index.specs.Refusals.{answered}
 use Rattle.index.specs.Check.{cell_rules}
-use Rattle.entry.specs.Rules.{resolution_rule}
-use Rattle.cell_entries.specs.Cells.{room_rule}
 use Rattle.cell_entries.proofs.Rooms.{refuses, goes_on, short}
 use Rattle.cell_entries.proofs.entries.list_short.Goals as goal
 
 pub returns-in_err-cell : goal.returns-in_err-cell
 returns-in_err-cell c =
-    let n = c.args.raw in
-    refuses (cell_rules n) (resolution_rule (res_of n + 1) ∷ (9 when ltb (res_of n + 1) (res_of n)) ∷ room_rule n (res_of n + 1) (length c.args.buf.now) ∷ []) _ _ _ _ _ _ _ c.in_err-cell.ensures c.from_residual.ensures.1
+    refuses (cell_rules c.args.raw) _ _ _ _ _ _ _ _ c.in_err-cell.ensures c.from_residual.ensures.1
 
 pub returns : goal.returns
 returns c =
