@@ -118,3 +118,7 @@ module _ (n t : ℕ) (h64 : n < 2 ^ 64) (v : Valid n) (lo : res_of n ≤ t) (hi 
   child_sum p hp =
       let o = opened (res_of n) (8 ^ (15 - t)) (8 ^ (15 - res_of n)) refl refl refl in
       ap (λ (z : ℕ). z + 8 ^ (15 - t) * octal (below f m p)) (sym o.first) ∙ total p hp (res_of n) (8 ^ (15 - t)) (8 ^ (15 - res_of n)) refl refl refl
+
+  -- that number fits and is a cell
+  pub child_made : (p s : ℕ) → p < count_of n t → s ≡ child_at n t 0 + 8 ^ (15 - t) * octal (below f m p) → (s ≡ child_at n t p) × (s < 2 ^ 60) × Valid s
+  child_made p s hp e = let q = e ∙ child_sum p hp in (q, rw q (child_fits p hp), rw q (child_valid p hp))

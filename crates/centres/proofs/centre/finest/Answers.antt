@@ -1,12 +1,12 @@
 -- A digit is always left.
-use Rattle.std.proofs.Common.{◌≡◌, ℕ, Bool, Option, Some, ◌∙◌, refl}
+use Rattle.std.proofs.Common.{◌≡◌, ℕ, Option, Some, ◌∙◌, refl}
 use Rattle.std.specs.Option.{IsSome}
-use Rattle.plane.specs.Directions.{unit}
-use Rattle.plane.specs.Points.{normal, Same, plus, minus, down7, up7, direction_of}
+use Rattle.plane.specs.Points.{normal, minus, down7, up7}
 use Rattle.plane.specs.Ranges.{Within, Broad}
 use Rattle.plane.specs.declared.ijk.IJK.{IJK}
 use Rattle.centres.proofs.Reading.{Sized, up_small, under_small, point_small, left_small, left_digit}
 use Rattle.centres.proofs.centre.finest.Goals as goal
+use Rattle.centres.proofs.centre.finest.Goals.{After-minus-rest, After-direction_of}
 
 some_is : {x : Option ℕ} {d : ℕ} → x ≡ Some d → IsSome x
 some_is e = rw e refl
@@ -14,43 +14,28 @@ some_is e = rw e refl
 same_some : {x : Option ℕ} {d e : ℕ} → x ≡ Some d → x ≡ Some e → d ≡ e
 same_some p q = cc
 
--- in the words of the calls
-module _ (o : Bool) (q up t : IJK) (w : Broad 200000000 q × Within 400000000 q × (up ≡ up7 o q)) where
-  sized : Sized q
-  sized = record { broad = w.0; within = w.1 }
+sized : {A : Type 0} {q : IJK} → Broad 200000000 q × Within 400000000 q × A → Sized q
+sized w = record { broad = w.0; within = w.1 }
 
-  up_fits : Within 250000000 up
-  up_fits = rw w.2 (up_small o q sized)
+-- what is left
+rest : (c : After-minus-rest) → c.minus-rest.result ≡ minus c.args.q (normal (down7 c.args.o (up7 c.args.o c.args.q)))
+rest c = rw (c.minus-rest.ensures, c.down_aperture7.ensures, c.requires.2) refl
 
-  module _ (et : t ≡ normal (down7 o up)) where
-    both_fit : Within 500000000 q × Within 500000000 t
-    both_fit = (point_small o q sized, rw (et, w.2) (under_small o q sized))
-
-    module _ (s : IJK) (es : s ≡ minus q t) where
-      left : s ≡ minus q (normal (down7 o (up7 o q)))
-      left = rw (es, et, w.2) refl
-
-      left_fits : Within 1000000000 s
-      left_fits = rw left (left_small o q sized)
-
-      module _ (x : Option ℕ) (ex : x ≡ direction_of s) where
-        some : x ≡ Some (left_digit o q).0
-        some = ex ∙ rw left (left_digit o q).3
-
-        is : (d : ℕ) → x ≡ Some d → Same q (plus (down7 o up) (unit d))
-        is d h = rw (same_some h some, w.2) (left_digit o q).2
+-- its digit
+some : (c : After-direction_of) → c.direction_of.result ≡ Some (left_digit c.args.o c.args.q).0
+some c = c.direction_of.ensures ∙ rw (rest c.before) (left_digit c.args.o c.args.q).3
 
 pub down_aperture7-requires : goal.down_aperture7-requires
-down_aperture7-requires c = up_fits c.args.o c.args.q c.args.up c.args.up c.requires
+down_aperture7-requires c = rw c.requires.2 (up_small c.args.o c.args.q (sized c.requires))
 
 pub minus-rest-requires : goal.minus-rest-requires
-minus-rest-requires c = both_fit c.args.o c.args.q c.args.up _ c.requires c.down_aperture7.ensures
+minus-rest-requires c = (point_small c.args.o c.args.q (sized c.requires), rw (c.down_aperture7.ensures, c.requires.2) (under_small c.args.o c.args.q (sized c.requires)))
 
 pub direction_of-requires : goal.direction_of-requires
-direction_of-requires c = left_fits c.args.o c.args.q c.args.up c.down_aperture7.result c.requires c.down_aperture7.ensures _ c.minus-rest.ensures
+direction_of-requires c = rw (rest (goal.at.direction_of-requires c).After-minus-rest) (left_small c.args.o c.args.q (sized c.requires))
 
 pub unwrap-requires : goal.unwrap-requires
-unwrap-requires c = some_is (some c.args.o c.args.q c.args.up c.down_aperture7.result c.requires c.down_aperture7.ensures c.minus-rest.result c.minus-rest.ensures _ c.direction_of.ensures)
+unwrap-requires c = some_is (some (goal.at.unwrap-requires c).After-direction_of)
 
 pub returns : goal.returns
-returns c = is c.args.o c.args.q c.args.up c.down_aperture7.result c.requires c.down_aperture7.ensures c.minus-rest.result c.minus-rest.ensures _ c.direction_of.ensures _ c.unwrap.ensures
+returns c = rw (same_some c.unwrap.ensures (some (goal.at.returns c).After-direction_of), c.requires.2) (left_digit c.args.o c.args.q).2

@@ -85,11 +85,9 @@ walk : (c : After-is_deleted) → Walk c.args.c c.args.d c.walk-w.result.number 
 walk c =
     record { cell = search rules; fits = search rules; small = search rules; number = c.walk-w.ensures.0; none = search rules; test = c.is_deleted.ensures }
 
+-- three steps after `is_deleted`
 known : (c : After-first_axe-first) → Deleted c.args.c c.args.d c.walk-w.result.number c.first_axe-first.result
-known c =
-    deleted _ _ _ _ _ _
-    (record { cell = search rules; fits = search rules; small = search rules; number = c.walk-w.ensures.0; none = search rules; test = c.is_deleted.ensures })
-    c.if-not-is_deleted.false c.number.ensures.value c.first_axe-first.ensures
+known c = deleted _ _ _ _ _ _ (walk c.before.before.before) c.if-not-is_deleted.false c.number.ensures.value c.first_axe-first.ensures
 
 pub returns-then-value-ne0 : goal.returns-then-value-ne0
 returns-then-value-ne0 c = left _ _ _ _ c.walk-w.ensures.1 c.value.ensures.value c.if-value-ne0.true
