@@ -1,4 +1,5 @@
-// Entries over a block of numbers: what the single entry gives for each element.
+// Entries over a block of numbers: what the single entry gives for each element. Each says its three promises itself, where the gate looks for the
+// statement of an entry. Values and refusals are two blocks, as C lends them, and may be longer than the cells; so they are written by index.
 ghost use Rattle.std.specs.Prelude.{◌≡◌, ℕ, ◌^◌, ◌<◌, Result};
 ghost use Rattle.index.specs.Refusals.{Outcome, number_of};
 ghost use Rattle.entry.specs.Answers.{value_of};

@@ -12,7 +12,7 @@ use plane::ijk;
 use plane::ijk::IJK;
 use plane::rotation::Rotation;
 
-// A direction, 0 to 6.
+// A direction, 0 to 6. No `TryFrom`, here and below: no type of these is this crate's.
 pub fn head(number: u32) -> Result<Direction, Refusal>
     ensures { told result ≡ judged (way_rule number ∷ []) number }
 {

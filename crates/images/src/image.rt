@@ -93,6 +93,7 @@ pub fn up_aperture7(p: IJK, ccw: bool) -> IJK
 }
 
 // The point moved by a direction's unit vector.
+#[tactic(auto, using(crate::proofs::Rows::once))]
 pub fn neighbor(p: IJK, d: Direction) -> IJK
     requires { Within 999999999 p }
     ensures { result ≡ points.normal (points.plus p (unit d)) }

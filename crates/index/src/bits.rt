@@ -27,6 +27,7 @@ pub fn sel(t: bool, a: u64, b: u64) -> u64
     if t { a } else { b }
 }
 
+// Fields by their own places and widths; one reader with both as parameters would be no plainer.
 pub(crate) fn get_top(n: u64) -> u64
     ensures { result ≡ top_bit n }
 {
@@ -59,7 +60,7 @@ pub fn get_direction(n: u64, r: Resolution) -> u64
     (n >> (3 * (15 - r.number()))) % 8
 }
 
-// The first used digit that is not 0, or 0. After digits that are all 0 comes a 7 that is not used: the place is capped at the resolution.
+// The first used digit that is not 0, or 0: document 01 has 0 for none. After digits that are all 0 comes a 7 that is not used: the place is capped at the resolution.
 pub fn first_axe(n: u64) -> u64
     ensures { result ≡ first_of n (res_of n) }
 {

@@ -112,7 +112,7 @@ fn checked(n: u64, k: u64) -> Result<Cell, Refusal>
     Err(refusal(k as u8))
 }
 
-// The check, for numbers that mostly are cells.
+// The check, for numbers that mostly are cells. Two checks with one promise, so that neither is the `TryFrom` of a cell.
 pub fn check(n: u64) -> Result<Cell, Refusal>
     ensures { told result ≡ check_of n }
 {

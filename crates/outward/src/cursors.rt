@@ -1,4 +1,5 @@
-// The cursor in C: five words of 64 bits, own resolution, target, number, skip in two's complement, left.
+// The cursor in C: five words of 64 bits, own resolution, target, number, skip in two's complement, left. Functions, no `From`: neither an array nor a
+// `Cursor` is this crate's.
 ghost use Rattle.std.specs.Prelude.{◌≡◌};
 ghost use Rattle.index.specs.Refusals.{number_of};
 ghost use Rattle.index.specs.Told.{told};

@@ -76,6 +76,7 @@ pub fn from_ij(p: IJ) -> Result<IJK, Refusal>
     Ok(ijk::of_ij(p.i, p.j))
 }
 
+// The four images: two lines each, and no plainer as one function that takes the image.
 pub fn down7(p: IJK, ccw: bool) -> Result<IJK, Refusal>
     ensures { told result ≡ down7_of ccw p }
 {

@@ -28,6 +28,7 @@ fn with_deleted(d: &Descent, p: u64) -> u64
 
 // A position below a hexagon as sixteen digits with eight as their base: fields of eight, four and two digits are split, the upper half of
 // each being a quotient by 2401, 49 and 7. Below 2401 (x * 1338) >> 16 is x / 49, below 49 (x * 37) >> 8 is x / 7.
+#[tactic(auto, using(crate::proofs::Eights::digits))]
 fn in_eights(p: u64) -> u64
     requires { p < 7 ^ 16 }
     ensures { result ≡ octal (below false 16 p) }

@@ -8,6 +8,7 @@ use index::{Cell, Digit, Resolution};
 use plane::direction::Direction;
 use plane::number::is_odd;
 
+// Document 01 keeps the four tables.
 static NEW_DIRECTION_II: [[u8; 7]; 7] = [
     [0, 1, 2, 3, 4, 5, 6],
     [1, 4, 3, 6, 5, 2, 0],
@@ -75,7 +76,7 @@ fn adjustment(o: bool, old: Digit, way: Direction) -> Direction
     Direction::new_unchecked(on)
 }
 
-// The number with the new digits, and the carry: 0 if none.
+// The number with the new digits, and the carry: 0 if none, as document 01 has it.
 #[derive(Clone, Copy, Debug, PartialEq, Eq, Hash)]
 pub struct Walked {
     pub number: u64,
