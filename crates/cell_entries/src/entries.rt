@@ -1,4 +1,5 @@
-// Entries that take a cell: the check, its descendants and its ancestors.
+// Entries that take a cell: the check, its descendants and its ancestors. Each says its promise in full, a listing what becomes of the buffer too: there
+// the gate looks for the statement of an entry.
 ghost use Rattle.std.specs.Prelude.{◌≡◌, ℕ, ◌+◌, length};
 ghost use Rattle.index.specs.Layout.{res_of};
 ghost use Rattle.index.specs.Check.{check_of};

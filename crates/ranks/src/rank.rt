@@ -20,6 +20,7 @@ fn with_deleted(d: &Descent, p: u64) -> u64
         return p;
     }
     let mut deleted = (sevens(m) - 1) / 6;
+    // No index is counted.
     while p <= 5 * (deleted / 7) {
         deleted /= 7;
     }

@@ -12,8 +12,9 @@ pub struct Digits {
     count: usize,
 }
 
-// In fixed memory: the first `hex.count` bytes of `text` are the word's. A `-` in front belongs to `decimal` only. `Reads`
-// relates a word to its bytes and stands in the contracts: it keeps 16, so that no view or invariant could name them all.
+// In fixed memory: the first `hex.count` bytes of `text` are the word's. A `-` in front belongs to `decimal` only. `Spells`
+// and `Reads` relate digits and a word to their bytes and stand in the contracts: a word keeps 16, so that no view or invariant
+// could name them all. No `ArrayVec`, which is not `Copy`: a line goes by value.
 #[derive(Clone, Copy)]
 pub struct Word {
     text: [u8; 16],
