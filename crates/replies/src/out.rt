@@ -50,7 +50,15 @@ impl Out {
 // No error where a write failed: the program ends quietly then (`is_open`).
 impl fmt::Write for Out {
     fn write_str(&mut self, s: &str) -> fmt::Result {
-        for b in s.as_bytes() {
+        let text = s.as_bytes();
+        let end = self.at + text.len();
+        // in one piece where there is room
+        if let Some(room) = self.bytes.get_mut(self.at..end) {
+            room.copy_from_slice(text);
+            self.at = end;
+            return Ok(());
+        }
+        for b in text {
             self.byte(*b);
         }
         Ok(())

@@ -16,13 +16,23 @@ impl<T: Display> Display for Told<T> {
     }
 }
 
+// A blank and the 16 digits of a cell. By `{:016x}` a listing takes three times as long to write.
+fn parted(n: u64) -> [u8; 17] {
+    let mut text = [b' '; 17];
+    hex::encode_to_slice(&n.to_be_bytes(), &mut text[1..]).unwrap();
+    text
+}
+
+fn write_ascii<W: fmt::Write>(f: &mut Formatter<W>, text: &[u8]) -> fmt::Result {
+    f.write_str(str::from_utf8(text).map_err(|_| fmt::Error)?)
+}
+
 #[derive(Drop)]
 pub struct Cell(pub u64);
 
 impl Display for Cell {
     fn fmt<W: fmt::Write>(&self, f: &mut Formatter<W>) -> fmt::Result {
-        let n = self.0;
-        write!(f, "{n:016x}")
+        write_ascii(f, &parted(self.0)[1..])
     }
 }
 
@@ -33,10 +43,8 @@ pub struct Cells<'a>(pub &'a [u64]);
 impl Display for Cells<'_> {
     fn fmt<W: fmt::Write>(&self, f: &mut Formatter<W>) -> fmt::Result {
         for (i, n) in self.0.iter().enumerate() {
-            if i > 0 {
-                f.write_str(" ")?;
-            }
-            write!(f, "{}", Cell(*n))?;
+            let from = if i == 0 { 1 } else { 0 };
+            write_ascii(f, &parted(*n)[from..])?;
         }
         Ok(())
     }
