@@ -53,13 +53,14 @@ impl Cell {
         is_pentagon(get_base_cell(self.0))
     }
 
-    // A pentagon's used digits are 0 and the unused 7.
+    // A pentagon's used digits are 0 and the unused 7. That test stands first: the compiler may branch on each of the two, and a branch on the base cell alone is
+    // often mispredicted.
     pub fn is_pentagon(self) -> bool
         ensures { result ≡ (is_pentagonal (base_of self) && first_of self (res_of self) == 0) }
     {
         let n = self.number();
         let own = get_resolution(n).number();
-        self.in_pentagon() & (n % DIGITS_END == SEVENS >> (3 * own))
+        (n % DIGITS_END == SEVENS >> (3 * own)) & self.in_pentagon()
     }
 
     pub fn ancestor(self, t: Resolution) -> Cell

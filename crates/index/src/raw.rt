@@ -74,16 +74,6 @@ fn is_cell(n: u64) -> bool
     head | beyond | (s ^ u) | deleted == 0
 }
 
-// The same number, for numbers that mostly are cells.
-fn likely_number(n: u64) -> u64
-    ensures { Numbered n result }
-{
-    if is_cell(n) {
-        return 0;
-    }
-    refusal_number(n)
-}
-
 // The refusal of a number 1 to 7.
 fn refusal(k: u8) -> Refusal
     requires { (1 ≤ k) × (k ≤ 7) }
@@ -112,11 +102,15 @@ fn checked(n: u64, k: u64) -> Result<Cell, Refusal>
     Err(refusal(k as u8))
 }
 
-// The check, for numbers that mostly are cells. Two checks with one promise, so that neither is the `TryFrom` of a cell.
+// The check, for numbers that mostly are cells. Two checks with one promise, so that neither is the `TryFrom` of a cell. Each arm hands its own number on: of one
+// number for both the compiler makes a branch on the top bit.
 pub fn check(n: u64) -> Result<Cell, Refusal>
     ensures { told result ≡ check_of n }
 {
-    checked(n, likely_number(n))
+    if is_cell(n) {
+        return checked(n, 0);
+    }
+    checked(n, refusal_number(n))
 }
 
 // The check with no branch, for numbers of which many are bad.
