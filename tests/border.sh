@@ -1,7 +1,8 @@
 #!/bin/sh
 # Fails where the library's face names what only our own crates may: `index::inside`, the module of field readers, the kinds with their makers
 # (`Cell`, `Resolution`, `BaseCell`, `Digit`, `Direction`), `entry::judge`, and `below`, which takes checks. The bodies of entries call them; public
-# items, the C exports, the line program, the header and the bindings must not name them. The exports and the line program name no crate of entries but hexagons.
+# items, the C exports, the line program, the header and the bindings must not name them. The exports and the line program name no crate of entries but hexagons,
+# and of `index` the type `Refusal` alone: a field is read by a method of a cell, which `index::check` makes.
 set -u
 cd "$(dirname "$0")/.." || exit 1
 above='crates/rivetgnome/src crates/requests/src crates/replies/src crates/hexline/src'
@@ -18,7 +19,9 @@ found=$(
         sed 's#//.*##' "$f" | tr '\n' ' ' | grep -oE 'pub use [^;]*;' | grep 'inside' | sed "s#^#$f: #"
     done
     sed 's#//.*##' crates/hexagons/src/*.rt | tr '\n' ' ' | grep -oE 'pub use [^;]*;' | grep -wE "$kinds|judge|below"
+    grep -nE 'judge|below' crates/hexagons/src/*.rt
     grep -rnE "(index|plane)::[a-z_:]*\{?.*\b($kinds)\b" $above
+    grep -rn '\bindex::' crates/outward/src $above | grep -v ':use index::Refusal;$'
     grep -rnE 'use (entry|[a-z]*_entries)::' $above
 )
 [ -z "$found" ] || { printf '%s\n' "$found"; exit 1; }
