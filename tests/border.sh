@@ -1,15 +1,17 @@
 #!/bin/sh
 # Fails where the library's face names what only our own crates may: `index::inside`, the module of field readers, the kinds with their makers
 # (`Cell`, `Resolution`, `BaseCell`, `Digit`, `Direction`), `entry::judge`, and `below`, which takes checks. The bodies of entries call them; public
-# items, the C exports, the line program, the header and the bindings must not name them. The exports and the line program name no crate of entries but hexagons,
-# and of `index` the type `Refusal` alone: a field is read by a method of a cell, which `index::check` makes.
+# items, the C exports, the line program, the header and the bindings must not name them. The exports and the line program name none of our crates but
+# hexagons, outward and their own, and outward only the types that it hands out: any other way to a cell leads to the readers, which are its methods.
 set -u
 cd "$(dirname "$0")/.." || exit 1
 above='crates/rivetgnome/src crates/requests/src crates/replies/src crates/hexline/src'
-for f in include bindings crates/outward/src crates/entry/src crates/hexagons/src/lib.rt $above; do
+for f in include bindings crates.txt crates/outward/src crates/entry/src crates/hexagons/src/lib.rt $above; do
     [ -e "$f" ] || { echo "border: there is no $f to read"; exit 1; }
 done
 kinds='Cell|Resolution|BaseCell|Digit|Direction'
+inner=$(sed -n 's/^\([a-z_]*\)[ a-z]*:.*/\1/p' crates.txt | grep -vxE 'hexagons|outward|rivetgnome|words|requests|replies|hexline' | paste -sd'|')
+handed='index::Refusal|children::\{Cursor, Given\}|plane::ijk::\{IJ, IJK\}|step_entries::\{Stepped, Walked\}'
 # shellcheck disable=SC2086
 found=$(
     grep -rnE 'inside|new_unchecked' include bindings crates/outward/src $above
@@ -20,8 +22,8 @@ found=$(
     done
     sed 's#//.*##' crates/hexagons/src/*.rt | tr '\n' ' ' | grep -oE 'pub use [^;]*;' | grep -wE "$kinds|judge|below"
     grep -nE 'judge|below' crates/hexagons/src/*.rt
-    grep -rnE "(index|plane)::[a-z_:]*\{?.*\b($kinds)\b" $above
-    grep -rn '\bindex::' crates/outward/src $above | grep -v ':use index::Refusal;$'
-    grep -rnE 'use (entry|[a-z]*_entries)::' $above
+    for f in $(find crates/outward/src $above -name '*.rt'); do
+        sed -e 's#//.*##' -e '/^ *ghost /d' "$f" | grep -wE "$inner" | sed "s#^#$f: #"
+    done | grep -vE "^crates/outward/src/[a-z]*\.rt: use ($handed);$"
 )
 [ -z "$found" ] || { printf '%s\n' "$found"; exit 1; }

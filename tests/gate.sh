@@ -48,7 +48,8 @@ program() {
     mkdir -p target/bin && rm -f target/bin/hexline && cp crates/hexline/out/hexline target/bin/hexline
 }
 if [ "$failed" = 0 ]; then
-    part 'the border of index::inside' tests/border_tried.sh
+    part 'the border of index::inside' tests/border.sh
+    part 'the border, tried' tests/border_tried.sh
     part 'the wrong programs' tests/refused.sh
     part 'the program' program
     part 'the archive' make -s lib
